@@ -1,0 +1,93 @@
+-- Laws of the plain functions on lists.
+use Prim.Native.Nat.{ℕ, zero, suc, _+_, _*_, _≤_, _<_}
+use native.Mathlib.Nat.{not-suc-le-zero, le-of-suc-le-suc}
+use native.Mathlib.Omega.{arith}
+use mathlib.Core.Path.{_≡_, refl, sym}
+use mathlib.Core.Bool.{Bool, true, false, cond, _&&_, and-eq-true-iff, and-assoc}
+use mathlib.Core.List.{List, [], _∷_, _++_, map, append-assoc}
+use lib.Dec.{eqb, leb}
+use lib.ListN.{length, getD, length-append, List·getD-append}
+use lib.Seq.{getD-append-add}
+use borrow.Author.Tests.{leb-true, eqb-true, eq-eqb}
+use Rattle.base.specs.Lists.{sum, flat, all, same, firstFailing}
+
+-- both of two tests that pass together
+pub and-left : (a b : Bool) → (a && b) ≡ true → a ≡ true
+and-left a b h = (and-eq-true-iff a b) .0 h .0
+
+pub and-right : (a b : Bool) → (a && b) ≡ true → b ≡ true
+and-right a b h = (and-eq-true-iff a b) .0 h .1
+
+-- two tests that pass together or not at all
+pub both-true : (a b : Bool) → (a ≡ true → b ≡ true) → (b ≡ true → a ≡ true) → a ≡ b
+both-true true b f g = sym (f refl)
+both-true false true f g = g refl
+both-true false false f g = refl
+
+-- a test that all of two lists pass
+pub all-append : {A : Type 0} (t : A → Bool) (xs ys : List A) → all t (xs ++ ys) ≡ (all t xs && all t ys)
+all-append t [] ys = refl
+all-append t (x ∷ xs) ys = rw (all-append t xs ys, and-assoc)
+
+module _ {A B : Type 0} (f : A → List B) where
+  -- the pieces of two lists one after the other
+  pub flat-append : (xs ys : List A) → flat f (xs ++ ys) ≡ flat f xs ++ flat f ys
+  flat-append [] ys = refl
+  flat-append (x ∷ xs) ys = rw (flat-append xs ys, append-assoc)
+
+  -- the pieces together are as long as their lengths together
+  pub length-flat : (xs : List A) → length (flat f xs) ≡ sum (map (λ x. length (f x)) xs)
+  length-flat [] = refl
+  length-flat (x ∷ xs) = rw (length-append, length-flat xs)
+
+  module _ (w : ℕ) (same-width : (x : A) → length (f x) ≡ w) where
+    -- pieces of one width together are as long as that width times their number
+    pub length-pieces : (xs : List A) → length (flat f xs) ≡ w * length xs
+    length-pieces [] = omega arith
+    length-pieces (x ∷ xs) = rw (length-append, same-width x, length-pieces xs) (omega arith)
+
+    -- where element j of piece i stands among pieces of one width
+    pub piece-at : (xs : List A) (i j : ℕ) (d : A) (z : B) → i < length xs → j < w → getD (flat f xs) (w * i + j) z ≡ getD (f (getD xs i d)) j z
+    piece-at [] i j d z h k = absurd (not-suc-le-zero h)
+    piece-at (x ∷ xs) zero j d z h k =
+        let e : w * 0 + j ≡ j = omega arith in
+        rw (e, List·getD-append (f x) (flat f xs) z j (rw (same-width x) k))
+    piece-at (x ∷ xs) (suc i) j d z h k =
+        let e : w * suc i + j ≡ length (f x) + (w * i + j) = rw (same-width x) (omega arith) in
+        rw (e, getD-append-add) (piece-at xs i j d z (le-of-suc-le-suc h) k)
+
+-- two lists that `same` finds the same
+pub same-eq : (xs ys : List ℕ) → same xs ys ≡ true → xs ≡ ys
+same-eq [] [] h = refl
+same-eq [] (y ∷ ys) h = cc
+same-eq (x ∷ xs) [] h = cc
+same-eq (x ∷ xs) (y ∷ ys) h = rw (eqb-true x y (and-left (eqb x y) (same xs ys) h), same-eq xs ys (and-right (eqb x y) (same xs ys) h))
+
+pub same-refl : (xs : List ℕ) → same xs xs ≡ true
+same-refl [] = refl
+same-refl (x ∷ xs) = rw (eq-eqb x x refl) (same-refl xs)
+
+pub same-append : (xs ys us vs : List ℕ) → length xs ≡ length us → same (xs ++ ys) (us ++ vs) ≡ (same xs us && same ys vs)
+same-append [] ys [] vs e = refl
+same-append [] ys (u ∷ us) vs e = absurd (omega arith)
+same-append (x ∷ xs) ys [] vs e = absurd (omega arith)
+same-append (x ∷ xs) ys (u ∷ us) vs e = rw (same-append xs ys us vs (omega arith), and-assoc (eqb x u) (same xs us) (same ys vs))
+
+-- tests that all pass
+abbrev pub Passed : List (ℕ × Bool) → Type 0
+Passed [] = Unit {0}
+Passed (t ∷ ts) = (t .1 ≡ true) × Passed ts
+
+-- none fails, where each has a number other than 0 and the first failing has number 0
+pub none-fails : (ts : List (ℕ × Bool)) → all (λ t. leb 1 (t .0)) ts ≡ true → firstFailing ts ≡ 0 → Passed ts
+none-fails [] n h = tt
+none-fails (t ∷ ts) n h =
+    first-passes (t .1) refl (leb-true 1 (t .0) (and-left (leb 1 (t .0)) (all (λ t. leb 1 (t .0)) ts) n)) (none-fails ts (and-right (leb 1 (t .0)) (all (λ t. leb 1 (t .0)) ts) n)) h
+  where
+    first-passes : (b : Bool) → t .1 ≡ b → 1 ≤ t .0 → (firstFailing ts ≡ 0 → Passed ts) → cond b (firstFailing ts) (t .0) ≡ 0 → (t .1 ≡ true) × Passed ts
+    first-passes true e l ih z = (e, ih z)
+    first-passes false e l ih z = absurd (omega arith)
+
+pub passed : (ts : List (ℕ × Bool)) → Passed ts → firstFailing ts ≡ 0
+passed [] h = refl
+passed (t ∷ ts) h = rw (h .0) (passed ts (h .1))

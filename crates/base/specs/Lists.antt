@@ -1,0 +1,47 @@
+-- Plain functions on lists that the definitions of the other crates are made of.
+use Prim.Native.Nat.{ℕ, zero, suc, _+_, max}
+use mathlib.Core.Bool.{Bool, true, false, cond, _&&_}
+use mathlib.Core.List.{List, [], _∷_, _++_, map}
+use lib.Dec.{eqb}
+use lib.ListN.{getD}
+
+abbrev pub sum : List ℕ → ℕ
+sum [] = 0
+sum (n ∷ ns) = n + sum ns
+
+abbrev pub largest : List ℕ → ℕ
+largest [] = 0
+largest (n ∷ ns) = max n (largest ns)
+
+-- the lists one after the other
+abbrev pub join : {A : Type 0} → List (List A) → List A
+join [] = []
+join (l ∷ ls) = l ++ join ls
+
+abbrev pub flat : {A B : Type 0} → (A → List B) → List A → List B
+flat f xs = join (map f xs)
+
+abbrev pub all : {A : Type 0} → (A → Bool) → List A → Bool
+all f [] = true
+all f (x ∷ xs) = f x && all f xs
+
+abbrev pub nonempty : {A : Type 0} → List A → Bool
+nonempty [] = false
+nonempty (x ∷ xs) = true
+
+-- whether two lists of numbers are the same
+abbrev pub same : List ℕ → List ℕ → Bool
+same [] [] = true
+same [] (y ∷ ys) = false
+same (x ∷ xs) [] = false
+same (x ∷ xs) (y ∷ ys) = eqb x y && same xs ys
+
+-- tests with a number each, in order: the number of the first that fails, or 0
+abbrev pub firstFailing : List (ℕ × Bool) → ℕ
+firstFailing [] = 0
+firstFailing (t ∷ ts) = cond (t .1) (firstFailing ts) (t .0)
+
+-- the n numbers of s from place i on, 0 for each beyond its end
+abbrev pub bytesAt : List ℕ → ℕ → ℕ → List ℕ
+bytesAt s i zero = []
+bytesAt s i (suc n) = getD s i 0 ∷ bytesAt s (suc i) n

@@ -1,0 +1,41 @@
+// Total reads and writes of bytes: a place beyond the end reads as 0 and is written by nothing, so
+// that no caller owes a bound.
+ghost use mathlib.Core.Path.{_≡_};
+ghost use Prim.Native.Nat.{_+_, _<_, _^_};
+ghost use lib.ListN.{getD, set};
+ghost use lib.Seq.{sets};
+ghost use Rattle.base.specs.Lists.{bytesAt};
+
+// The byte at place i, 0 beyond the end.
+pub fn at(s: &[u8], i: usize) -> u8
+    ensures { λ r. ⌜ r ≡ getD (now (s .entry)) i 0 ⌝ }
+{
+    if i < s.len() { s[i] } else { 0 }
+}
+
+// Stores b at place i, and nothing beyond the end.
+pub fn put(s: &mut [u8], i: usize, b: u8)
+    ensures { λ _. ⌜ now (s .exit) ≡ set (now (s .entry)) i b ⌝ }
+{
+    if i < s.len() {
+        s[i] = b;
+    }
+}
+
+// A byte as a number that indexes.
+pub fn wide(b: u8) -> usize
+    ensures { λ r. ⌜ r ≡ b ⌝ }
+{
+    b as usize
+}
+
+// Copies n bytes, from place `from` of src on, to place `to` of dst on.
+pub fn copy(src: &[u8], from: usize, dst: &mut [u8], to: usize, n: usize)
+    requires { ⌜ from + n < 2 ^ 64 ⌝ }
+    requires { ⌜ to + n < 2 ^ 64 ⌝ }
+    ensures { λ _. ⌜ now (dst .exit) ≡ sets (now (dst .entry)) to (bytesAt (now (src .entry)) from n) ⌝ }
+{
+    for j in 0..n {
+        put(dst, to + j, at(src, from + j));
+    }
+}

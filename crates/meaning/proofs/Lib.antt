@@ -1,0 +1,5 @@
+pub mod Examples
+pub mod Trees
+pub mod Parsing
+pub mod Files
+pub mod Tables

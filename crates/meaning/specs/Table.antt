@@ -1,0 +1,115 @@
+-- Location table: the table of a program, the file that a table holds, and which byte lists are a table (refusal 9).
+use Prim.Native.Nat.{ℕ, suc, _+_, _*_}
+use mathlib.Core.Bool.{Bool, cond, _&&_}
+use mathlib.Core.Option.{Option, none, some}
+use mathlib.Core.List.{List, [], _∷_, _++_, map}
+use lib.Dec.{eqb, leb}
+use lib.ListN.{length}
+use lib.Seq.{sets}
+use Rattle.base.specs.Lists.{sum, flat, nonempty, same, firstFailing}
+use Rattle.meaning.specs.declared.Operand.{Operand}
+use Rattle.meaning.specs.declared.Form.{Form}
+use Rattle.meaning.specs.declared.Form.the-variants.{File, Table}
+use Rattle.meaning.specs.Sizes.{numberWidth, noPart, headerLength, rowLength, lengthOf, numberBytes, bytesAt, numberAt}
+use Rattle.meaning.specs.Kinds.{Kind, UNKNOWN, GOAL, START, WAIT, SEQ, PAR, MAINTAIN, CHOICE, REPEAT, numberOf}
+use Rattle.meaning.specs.Tree.{Part, fold, size}
+use Rattle.meaning.specs.Program.{parts, variables, clocks, sizeBytes, operandBytes, entries, arrays, treeOf, programRefusal}
+
+-- "kind; end (one past the part's last descendant); parent; next; the operand"
+pub record Row : Type 0 where
+  pub kind : ℕ
+  pub end : ℕ
+  pub parent : ℕ
+  pub next : ℕ
+  pub operand : Operand
+
+abbrev pub linkBytes : Row → List ℕ
+linkBytes r = numberBytes (r .end) ++ (numberBytes (r .parent) ++ numberBytes (r .next))
+
+abbrev pub rowBytes : Row → List ℕ
+rowBytes r = r .kind ∷ (linkBytes r ++ operandBytes (r .operand))
+
+-- "Next is the following sibling for a child of SEQ, and the child itself for a child of REPEAT":
+-- of the child numbered p that ends at e, where a sibling follows or none does
+unfoldable pub nextOf : Kind → ℕ → ℕ → Bool → ℕ
+nextOf UNKNOWN p e follows = noPart
+nextOf GOAL p e follows = noPart
+nextOf START p e follows = noPart
+nextOf WAIT p e follows = noPart
+nextOf SEQ p e follows = cond follows e noPart
+nextOf PAR p e follows = noPart
+nextOf MAINTAIN p e follows = noPart
+nextOf CHOICE p e follows = noPart
+nextOf REPEAT p e follows = p
+
+-- The rows of a part and of all inside it, once its number, its parent and its next are known
+pub record Block : Type 0 where
+  pub parts : ℕ
+  pub rows : ℕ → ℕ → ℕ → List Row
+
+-- the rows of children that stand from number p on, inside part q of kind k
+abbrev pub siblings : Kind → ℕ → ℕ → List Block → List Row
+siblings k q p [] = []
+siblings k q p (b ∷ bs) = b .rows p q (nextOf k p (p + b .parts) (nonempty bs)) ++ siblings k q (p + b .parts) bs
+
+abbrev pub blockParts : Block → ℕ
+blockParts b = b .parts
+
+abbrev pub blockOf : Kind → Operand → List Block → Block
+blockOf k o bs =
+    record {
+      parts = suc (sum (map blockParts bs));
+      rows = λ p q x. record { kind = numberOf k; end = p + suc (sum (map blockParts bs)); parent = q; next = x; operand = o } ∷ siblings k p (suc p) bs;
+    }
+
+unfoldable pub block : Part → Block
+block p = fold blockOf p
+
+-- The table of a tree: the sizes, then a row per part, from the root on, which has no parent and no next
+unfoldable pub tableOf : ℕ → ℕ → Part → List ℕ
+tableOf v k p = sizeBytes (size p) v k ++ flat rowBytes (block p .rows 0 noPart noPart)
+
+-- The table of a program held in a file or in a table; of a byte list that holds no tree there is none
+abbrev pub tableFor : ℕ → ℕ → Option Part → List ℕ
+tableFor v k none = []
+tableFor v k (some p) = tableOf v k p
+
+unfoldable pub compiled : Form → List ℕ → List ℕ
+compiled form s = tableFor (variables s) (clocks s) (treeOf form s)
+
+-- What row p of a table has for its part's end, parent and next
+abbrev pub endAt : List ℕ → ℕ → ℕ
+endAt t p = numberAt t (headerLength + rowLength * p + 1)
+
+abbrev pub parentAt : List ℕ → ℕ → ℕ
+parentAt t p = numberAt t (headerLength + rowLength * p + (1 + numberWidth))
+
+abbrev pub nextAt : List ℕ → ℕ → ℕ
+nextAt t p = numberAt t (headerLength + rowLength * p + (1 + 2 * numberWidth))
+
+-- The file that a table holds: its sizes, then its rows' kinds, then its rows' operands
+unfoldable pub fileIn : List ℕ → List ℕ
+fileIn t = bytesAt t 0 headerLength ++ arrays (entries Table t)
+
+-- "bytes not the table of any file": the table of the file that it holds, where that file is one, and nothing else
+unfoldable pub isTable : List ℕ → Bool
+isTable t = eqb (programRefusal File (fileIn t)) 0 && same (compiled File (fileIn t)) t
+
+-- "reading 1 to 7, each over all parts, then 8"; `room` is the output buffer's length
+unfoldable pub readRefusal : List ℕ → ℕ → ℕ
+readRefusal f room = cond (eqb (programRefusal File f) 0) (firstFailing ((8, leb (lengthOf Table (parts f)) room) ∷ [])) (programRefusal File f)
+
+-- what stands in the output buffer afterwards: "an output buffer's further bytes are untouched", and a refused call changes nothing
+unfoldable pub readInto : List ℕ → List ℕ → List ℕ
+readInto f out = cond (eqb (readRefusal f (length out)) 0) (sets out 0 (compiled File f)) out
+
+-- the table check alone: 9
+unfoldable pub tableRefusal : List ℕ → ℕ
+tableRefusal t = firstFailing ((9, isTable t) ∷ [])
+
+-- "Back to a file 9, 8"
+unfoldable pub writeRefusal : List ℕ → ℕ → ℕ
+writeRefusal t room = firstFailing ((9, isTable t) ∷ (8, leb (lengthOf File (parts t)) room) ∷ [])
+
+unfoldable pub writtenInto : List ℕ → List ℕ → List ℕ
+writtenInto t out = cond (eqb (writeRefusal t (length out)) 0) (sets out 0 (fileIn t)) out

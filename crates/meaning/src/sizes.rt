@@ -1,0 +1,32 @@
+// The numbers of document 01 that stand for a limit, a width or "none", as the code has them; the
+// definitions have theirs in specs/Sizes.antt, and the proofs hold the two together.
+
+pub const MAX_PARTS: u8 = 200;
+
+pub const MAX_VARIABLES: u8 = 32;
+
+pub const MAX_CLOCKS: u8 = 16;
+
+pub const MAX_DEPTH: u8 = 16;
+
+pub const MAX_VALUE: u16 = 250;
+
+// No parent, or no next.
+pub const NO_PART: u8 = 255;
+
+// How many bytes the sizes, an operand, a part's links (end, parent, next) and a row take.
+pub const HEADER: usize = 3;
+
+pub const OPERAND: usize = 4;
+
+pub const LINKS: usize = 3;
+
+pub const ROW: usize = 8;
+
+// Room for the links of the most parts.
+pub const MAX_LINKS: usize = 600;
+
+// How long the longest file and the longest table are.
+pub const MAX_FILE: usize = 1003;
+
+pub const MAX_TABLE: usize = 1603;

@@ -1,0 +1,12 @@
+-- One tree, decided by counting: what the code computes, which proofs/Counting.antt joins to `trees`.
+use Prim.Native.Nat.{ℕ, _+_, _-_}
+use mathlib.Core.Bool.{Bool, not, _&&_}
+use mathlib.Core.List.{List, [], _∷_}
+use lib.Dec.{eqb}
+use Rattle.meaning.specs.declared.Entry.{Entry}
+use Rattle.meaning.specs.Program.{arityOf}
+
+-- the entries are exactly as many trees as are due
+unfoldable pub fills : List Entry → ℕ → Bool
+fills [] due = eqb due 0
+fills (e ∷ es) due = not (eqb due 0) && fills es (due - 1 + arityOf e)

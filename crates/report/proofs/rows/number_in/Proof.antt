@@ -1,0 +1,25 @@
+-- `number_in` meets its contract: the number that stands at that place.
+use borrow.Author.Needs.{needs}
+use Rattle.report.proofs.rows.number_in.Statement.{statement}
+use Rattle.report.proofs.rows.number_in.Tie as tie
+
+wide-requires : tie.Need-wide-requires
+wide-requires c κs = search needs
+
+mul-number-at : tie.Need-mul-number-at
+mul-number-at c = search needs
+
+add-number-at : tie.Need-add-number-at
+add-number-at c = search needs
+
+add-number-at-2 : tie.Need-add-number-at-2
+add-number-at-2 c = search needs
+
+number-at-requires : tie.Need-number-at-requires
+number-at-requires c κs = search needs
+
+returns : tie.Need-returns
+returns c = cc
+
+pub number-in-spec : {M : Type 1} → statement M
+number-in-spec = tie.close (tie.spec wide-requires mul-number-at add-number-at add-number-at-2 number-at-requires returns)

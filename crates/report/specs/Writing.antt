@@ -1,0 +1,11 @@
+-- What it is to write a text into a buffer.
+use Prim.Native.Nat.{ℕ, _+_}
+use mathlib.Core.Path.{_≡_}
+use mathlib.Core.List.{List}
+use lib.ListN.{length}
+use lib.Seq.{sets}
+
+-- `text` stored into l from place i on gives m, and j is the place after it
+pub record Written (text l : List ℕ) (i : ℕ) (m : List ℕ) (j : ℕ) : Type 0 where
+  pub bytes : m ≡ sets l i text
+  pub after : j ≡ i + length text

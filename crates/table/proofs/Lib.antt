@@ -1,0 +1,5 @@
+pub mod Linking
+pub mod Matches
+pub mod Writes
+pub mod TableRows
+pub mod Operations

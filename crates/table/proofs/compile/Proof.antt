@@ -1,0 +1,50 @@
+-- `compile` meets its contract: one law of Operations for each answer.
+use Rattle.table.proofs.Operations.{not-refused, read-refused, read-short, read-done}
+use borrow.Author.Needs.{needs}
+use Rattle.table.proofs.compile.Statement.{statement}
+use Rattle.table.proofs.compile.Tie as tie
+
+examine-requires : tie.Need-examine-requires
+examine-requires c κs = search needs
+
+enum-told : tie.Need-enum-told
+enum-told c = search needs
+
+enum-told-2 : tie.Need-enum-told-2
+enum-told-2 c = search needs
+
+returns : tie.Need-returns
+returns c = read-refused _ _ _ _ (c .before .before .examine .ensures) (c .enum-told2 .given .1)
+
+parts-requires : tie.Need-parts-requires
+parts-requires c κs = search needs
+
+length-of-requires : tie.Need-length-of-requires
+length-of-requires c κs = search needs
+
+returns-2 : tie.Need-returns-2
+returns-2 c = read-short _ _ _ _ (not-refused _ _ (c .before .before .before .before .before .examine .ensures) (c .before .before .before .enum-told .given .1)) (c .before .before .parts .ensures) (c .before .length-of .ensures) (c .if1 .taken)
+
+write-table-requires : tie.Need-write-table-requires
+write-table-requires c κs = (not-refused _ _ (c .before .before .before .before .before .before .examine .ensures) (c .before .before .before .before .enum-told .given .1))
+
+same-length : tie.Need-same-length
+same-length c = search needs
+
+returns-3 : tie.Need-returns-3
+returns-3 c = read-done _ _ _ _ (not-refused _ _ (c .before .before .before .before .before .before .before .before .before .examine .ensures) (c .before .before .before .before .before .before .before .enum-told .given .1)) (c .before .before .before .before .before .before .parts .ensures) (c .before .before .before .before .before .length-of .ensures) _ (c .before .before .before .before .if1 .left) (c .before .before .write-table .ensures)
+
+pub compile-spec : {M : Type 1} → statement M
+compile-spec =
+    tie.close
+    (tie.spec
+    examine-requires
+    enum-told
+    enum-told-2
+    returns
+    parts-requires
+    length-of-requires
+    returns-2
+    write-table-requires
+    same-length
+    returns-3)

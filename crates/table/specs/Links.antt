@@ -1,0 +1,39 @@
+-- What the code writes of links and rows, in the terms of the location table.
+use Prim.Native.Nat.{ℕ, suc, zero, _+_, _*_}
+use mathlib.Core.Bool.{Bool, true, _&&_}
+use mathlib.Core.List.{List, [], _∷_, _++_, map}
+use lib.Dec.{eqb}
+use lib.ListN.{getD}
+use Rattle.meaning.specs.declared.Entry.{Entry}
+use Rattle.meaning.specs.declared.Form.{Form}
+use Rattle.meaning.specs.declared.Form.the-variants.{Table}
+use Rattle.meaning.specs.Sizes.{headerLength, rowLength, linksLength, numberBytes, bytesAt}
+use Rattle.meaning.specs.Tree.{Part, kind, children}
+use Rattle.meaning.specs.Program.{operandBytes, entryAt}
+use Rattle.meaning.specs.Table.{Row, block, siblings}
+
+-- the rows of all parts inside part p
+unfoldable pub inner : Part → ℕ → List Row
+inner t p = siblings (kind t) p (suc p) (map block (children t))
+
+abbrev pub links : ℕ → ℕ → ℕ → List ℕ
+links e p n = numberBytes e ++ (numberBytes p ++ numberBytes n)
+
+-- row p, of the part's entry and of the links that stand in a buffer
+unfoldable pub rowFrom : Entry → List ℕ → ℕ → List ℕ
+rowFrom e ls p = e .kind ∷ (bytesAt ls (linksLength * p) linksLength ++ operandBytes (e .operand))
+
+unfoldable pub rowsFrom : Form → List ℕ → List ℕ → ℕ → ℕ → List ℕ
+rowsFrom form s ls p zero = []
+rowsFrom form s ls p (suc n) = rowFrom (entryAt form s p) ls p ++ rowsFrom form s ls (suc p) n
+
+abbrev pub every : (ℕ → Bool) → ℕ → ℕ → Bool
+every f i zero = true
+every f i (suc n) = f i && every f (suc i) n
+
+-- byte j of row p is the one implied
+unfoldable pub byteMatches : List ℕ → List ℕ → ℕ → ℕ → Bool
+byteMatches t ls p j = eqb (getD (rowFrom (entryAt Table t p) ls p) j 0) (getD t (headerLength + rowLength * p + j) 0)
+
+unfoldable pub rowMatches : List ℕ → List ℕ → ℕ → Bool
+rowMatches t ls p = every (byteMatches t ls p) 0 rowLength

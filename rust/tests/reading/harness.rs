@@ -1,0 +1,231 @@
+//! Calls of the library that are compared with the model in every byte.
+
+use std::hint::black_box;
+use std::ops::Range;
+
+use gurvoke::cases::{hex, Rng};
+use gurvoke::model;
+
+/// Guard bytes on each side of a lent buffer.
+const GUARD_LEN: usize = 24;
+
+/// What a call answers.
+pub type Answer = Result<(), u32>;
+
+/// A call of the library or of the model: input, output.
+type Call = fn(&[u8], &mut [u8]) -> Answer;
+
+/// A buffer that is lent to the library, with guard bytes on both sides.
+struct Lent {
+    bytes: Vec<u8>,
+    part: Range<usize>,
+    before_call: Vec<u8>,
+}
+
+impl Lent {
+    /// Lends `content`; the bytes that stand behind it begin with `behind`.
+    fn new(rng: &mut Rng, content: &[u8], behind: &[u8]) -> Lent {
+        let mut bytes = rng.bytes(GUARD_LEN);
+        bytes.extend(content);
+        bytes.extend(behind);
+        bytes.extend(rng.bytes(GUARD_LEN));
+        Lent {
+            part: GUARD_LEN..GUARD_LEN + content.len(),
+            before_call: bytes.clone(),
+            bytes,
+        }
+    }
+
+    fn content(&self) -> &[u8] {
+        &self.bytes[self.part.clone()]
+    }
+
+    fn content_mut(&mut self) -> &mut [u8] {
+        &mut self.bytes[self.part.clone()]
+    }
+
+    /// Whether the buffer and its guard bytes are what they were, but for `content`.
+    fn holds_only(&self, content: &[u8]) -> bool {
+        let mut expected = self.before_call.clone();
+        expected[self.part.clone()].copy_from_slice(content);
+        self.bytes == expected
+    }
+}
+
+/// Compares one call of `gurvoke_compile` with the model, and gives the answer.
+pub fn check_compile(rng: &mut Rng, file: &[u8], table_len: usize) -> Answer {
+    check_call(rng, COMPILE, file, &[], table_len)
+}
+
+/// Compares one call of `gurvoke_decompile` with the model, and gives the answer.
+pub fn check_decompile(rng: &mut Rng, table: &[u8], file_len: usize) -> Answer {
+    check_call(rng, DECOMPILE, table, &[], file_len)
+}
+
+/// As `check_compile`, for the first `len` bytes of a file that stands whole in memory.
+pub fn check_compile_cut(rng: &mut Rng, file: &[u8], len: usize, table_len: usize) -> Answer {
+    check_call(rng, COMPILE, &file[..len], &file[len..], table_len)
+}
+
+/// As `check_decompile`, for the first `len` bytes of a table that stands whole in memory.
+pub fn check_decompile_cut(rng: &mut Rng, table: &[u8], len: usize, file_len: usize) -> Answer {
+    check_call(rng, DECOMPILE, &table[..len], &table[len..], file_len)
+}
+
+/// A function of the library with its model.
+struct Operation {
+    name: &'static str,
+    library: Call,
+    model: Call,
+}
+
+const COMPILE: Operation = Operation {
+    name: "compile",
+    library: gurvoke::compile,
+    model: model::compile,
+};
+
+const DECOMPILE: Operation = Operation {
+    name: "decompile",
+    library: gurvoke::decompile,
+    model: model::decompile,
+};
+
+fn check_call(
+    rng: &mut Rng,
+    operation: Operation,
+    input: &[u8],
+    behind: &[u8],
+    output_len: usize,
+) -> Answer {
+    let mut lent_input = Lent::new(rng, input, behind);
+    let filling = rng.bytes(output_len);
+    let mut lent_output = Lent::new(rng, &filling, &[]);
+
+    let mut expected = filling.clone();
+    let wanted = (operation.model)(input, &mut expected);
+    let answer = (operation.library)(lent_input.content(), lent_output.content_mut());
+
+    // The compiler must not take for granted what it cannot see the library do.
+    let lent_input = black_box(&mut lent_input);
+    let lent_output = black_box(&mut lent_output);
+    let case = || {
+        format!(
+            "{} of {} into {output_len} bytes",
+            operation.name,
+            hex(input)
+        )
+    };
+    assert_eq!(answer, wanted, "{}: answer (left: library)", case());
+    assert!(lent_input.holds_only(input), "{}: input changed", case());
+    if answer.is_err() {
+        let untouched = lent_output.holds_only(&filling);
+        assert!(untouched, "{}: refused, but output changed", case());
+    }
+    assert!(
+        lent_output.holds_only(&expected),
+        "{}: output is {} and should be {}, or a byte beside it changed",
+        case(),
+        hex(lent_output.content()),
+        hex(&expected)
+    );
+    answer
+}
+
+/// Compares all that can be done with a file: reading it into output buffers of every
+/// interesting length and, where it is accepted, giving it back.
+pub fn check_file(rng: &mut Rng, tally: &mut Tally, file: &[u8]) -> Answer {
+    let Ok(program) = model::read(file) else {
+        return check_refused_file(rng, tally, file);
+    };
+    let table = program.table();
+    for table_len in interesting_lengths(rng, table.len()) {
+        tally.note(check_compile(rng, file, table_len));
+    }
+    for file_len in interesting_lengths(rng, file.len()) {
+        tally.note(check_decompile(rng, &table, file_len));
+    }
+    check_round_trip(file);
+    Ok(())
+}
+
+fn check_refused_file(rng: &mut Rng, tally: &mut Tally, file: &[u8]) -> Answer {
+    let longest = model::SIZES_LEN + model::ROW_LEN * model::MAX_PARTS;
+    let likely = model::Sizes::read(file).map_or(0, |sizes| sizes.table_len());
+    let mut answer = Ok(());
+    for table_len in [0, longest, likely] {
+        answer = check_compile(rng, file, table_len);
+        tally.note(answer);
+    }
+    answer
+}
+
+/// Compares giving a table back into output buffers of every interesting length.
+pub fn check_table(rng: &mut Rng, tally: &mut Tally, table: &[u8]) -> Answer {
+    let likely = model::Sizes::read(table).map_or(0, |sizes| sizes.file_len());
+    let mut answer = Ok(());
+    for file_len in interesting_lengths(rng, likely) {
+        answer = check_decompile(rng, table, file_len);
+        tally.note(answer);
+    }
+    answer
+}
+
+/// Reads an accepted file and gives it back, with no model between.
+fn check_round_trip(file: &[u8]) {
+    let sizes = model::Sizes::read(file).expect("an accepted file has its sizes");
+    let mut table = vec![0; sizes.table_len()];
+    let mut again = vec![0; file.len()];
+    assert_eq!(gurvoke::compile(file, &mut table), Ok(()), "{}", hex(file));
+    assert_eq!(
+        gurvoke::decompile(&table, &mut again),
+        Ok(()),
+        "table {} of file {}",
+        hex(&table),
+        hex(file)
+    );
+    assert!(
+        again == file,
+        "file {} is given back as {}",
+        hex(file),
+        hex(&again)
+    );
+}
+
+/// Lengths of an output buffer for `exact` bytes: none, one short, longer, exact.
+fn interesting_lengths(rng: &mut Rng, exact: usize) -> [usize; 5] {
+    let short = rng.below(exact + 1);
+    let longer = exact + rng.between(1, 40);
+    [0, short, exact.saturating_sub(1), longer, exact]
+}
+
+/// How often each answer was given.
+#[derive(Default)]
+pub struct Tally {
+    counts: [u64; 10],
+}
+
+impl Tally {
+    pub fn note(&mut self, answer: Answer) {
+        let number = answer.err().unwrap_or(0);
+        self.counts[number as usize] += 1;
+    }
+
+    /// Fails unless each answer named (0: accepted) was given at least so often.
+    pub fn require(&self, name: &str, minimums: &[(usize, u64)]) {
+        let total: u64 = self.counts.iter().sum();
+        println!("{name}: {total} calls, by answer {:?}", self.counts);
+        for &(answer, minimum) in minimums {
+            let count = self.counts[answer];
+            assert!(
+                count >= minimum,
+                "{name}: answer {answer} came {count} times, and should at least {minimum} times"
+            );
+        }
+    }
+
+    /// Fails unless the answer named was given exactly so often.
+    pub fn require_exactly(&self, name: &str, answer: usize, count: u64) {
+        assert_eq!(self.counts[answer], count, "{name}: answer {answer}");
+    }
+}
