@@ -1,15 +1,15 @@
 -- Laws of the plain functions on lists.
 use Prim.Native.Nat.{ℕ, zero, suc, _+_, _*_, _≤_, _<_}
-use native.Mathlib.Nat.{not-suc-le-zero, le-of-suc-le-suc}
+use native.Mathlib.Nat.{add-zero, suc-add, add-suc, not-suc-le-zero, le-of-suc-le-suc}
 use native.Mathlib.Omega.{arith}
-use mathlib.Core.Path.{_≡_, refl, sym}
+use mathlib.Core.Path.{_≡_, refl, sym, _∙_}
 use mathlib.Core.Bool.{Bool, true, false, cond, _&&_, and-eq-true-iff, and-assoc}
 use mathlib.Core.List.{List, [], _∷_, _++_, map, append-assoc}
 use lib.Dec.{eqb, leb}
-use lib.ListN.{length, getD, length-append, List·getD-append}
+use lib.ListN.{length, getD, replicate, length-append, List·getD-append}
 use lib.Seq.{getD-append-add}
 use borrow.Author.Tests.{leb-true, eqb-true, eq-eqb}
-use Rattle.base.specs.Lists.{sum, flat, all, same, firstFailing}
+use Rattle.base.specs.Lists.{sum, flat, all, same, firstFailing, tabulate}
 
 -- both of two tests that pass together
 pub and-left : (a b : Bool) → (a && b) ≡ true → a ≡ true
@@ -23,6 +23,15 @@ pub both-true : (a b : Bool) → (a ≡ true → b ≡ true) → (b ≡ true →
 both-true true b f g = sym (f refl)
 both-true false true f g = g refl
 both-true false false f g = refl
+
+-- a function of one of two, and one of two that are the same
+pub cond-map : {A B : Type 0} (f : A → B) (b : Bool) (x y : A) → f (cond b x y) ≡ cond b (f x) (f y)
+cond-map f true x y = refl
+cond-map f false x y = refl
+
+pub cond-same : {A : Type 0} (b : Bool) (x : A) → cond b x x ≡ x
+cond-same true x = refl
+cond-same false x = refl
 
 -- a test that all of two lists pass
 pub all-append : {A : Type 0} (t : A → Bool) (xs ys : List A) → all t (xs ++ ys) ≡ (all t xs && all t ys)
@@ -91,3 +100,29 @@ none-fails (t ∷ ts) n h =
 pub passed : (ts : List (ℕ × Bool)) → Passed ts → firstFailing ts ≡ 0
 passed [] h = refl
 passed (t ∷ ts) h = rw (h .0) (passed ts (h .1))
+
+-- a test that each of n equal elements passes
+pub all-replicate : {A : Type 0} (t : A → Bool) (n : ℕ) (x : A) → t x ≡ true → all t (replicate n x) ≡ true
+all-replicate t zero x h = refl
+all-replicate t (suc n) x h = rw h (all-replicate t n x h)
+
+-- the elements of a list made by a function, how many there are, and a test that they all pass
+module _ {A : Type 0} (f : ℕ → A) where
+  pub length-tabulate : (i n : ℕ) → length (tabulate f i n) ≡ n
+  length-tabulate i zero = refl
+  length-tabulate i (suc n) = rw (length-tabulate (suc i) n)
+
+  pub getD-tabulate : (i n c : ℕ) (d : A) → c < n → getD (tabulate f i n) c d ≡ f (i + c)
+  getD-tabulate i zero c d h = absurd (not-suc-le-zero h)
+  getD-tabulate i (suc n) zero d h = rw add-zero
+  getD-tabulate i (suc n) (suc c) d h = getD-tabulate (suc i) n c d (le-of-suc-le-suc h) ∙ rw (suc-add, add-suc)
+
+  pub tabulate-same : (g : ℕ → A) (i n : ℕ) → ((c : ℕ) → i ≤ c → c < i + n → f c ≡ g c) → tabulate f i n ≡ tabulate g i n
+  tabulate-same g i zero h = refl
+  tabulate-same g i (suc n) h = rw (h i (omega arith) (omega arith), tabulate-same g (suc i) n (λ c a b. h c (omega arith) (omega arith)))
+
+  pub all-tabulate : (t : A → Bool) (i n : ℕ) → ((c : ℕ) → c < n → t (f (i + c)) ≡ true) → all t (tabulate f i n) ≡ true
+  all-tabulate t i zero h = refl
+  all-tabulate t i (suc n) h =
+      let first : t (f i) ≡ true = rw add-zero at (h 0 (omega arith)) in
+      rw first (all-tabulate t (suc i) n (λ c l. rw (suc-add, ← add-suc) (h (suc c) (omega arith))))

@@ -1,13 +1,14 @@
 -- Laws on lists of numbers: the bytes from a place on, runs of stores that meet, and loops that store.
 use Prim.Native.Nat.{ℕ, zero, suc, _+_, _-_, _<_, _≤_}
 use mathlib.Core.Path.{_≡_, refl, sym, ap, _∙_}
-use mathlib.Core.List.{List, [], _∷_, _++_}
-use native.Mathlib.Nat.{add-zero, add-suc, suc-add}
+use mathlib.Core.Logic.{_⊎_, inl, inr}
+use mathlib.Core.List.{List, [], _∷_, _++_, map, append-assoc}
+use native.Mathlib.Nat.{zero-add, add-zero, add-suc, suc-add}
 use native.Mathlib.Numerals.{add-one}
 use native.Mathlib.Omega.{arith}
-use lib.ListN.{length, getD, drop, set}
-use lib.Seq.{sets, set-comm, drop-drop, drop-append-seam, getD-drop}
-use Rattle.base.specs.Lists.{bytesAt}
+use lib.ListN.{length, getD, take, drop, set, length-append, length-set, List·getD-map}
+use lib.Seq.{sets, drop-cons, sets-eq, length-take-le, drop-at, getD-set-same, getD-set-other, drop-set-lt, set-comm, drop-drop, drop-append-seam, drop-append-add, getD-drop}
+use Rattle.base.specs.Lists.{sum, join, bytesAt}
 
 -- a run of stores, and then one that begins where it ends
 pub sets-append : (l : List ℕ) (i j : ℕ) (xs ys : List ℕ) → i + length xs ≡ j → sets (sets l i xs) j ys ≡ sets l i (xs ++ ys)
@@ -26,6 +27,10 @@ sets-before l i j (x ∷ xs) ys e = rw (set-before l i j x ys (omega arith)) (se
 pub sets-three : (l : List ℕ) (i j k : ℕ) (xs ys zs : List ℕ) → i + length xs ≡ j → j + length ys ≡ k → sets (sets (sets l i xs) j ys) k zs ≡ sets l i (xs ++ (ys ++ zs))
 sets-three l i j k xs ys zs e d = sets-append (sets l i xs) j k ys zs d ∙ sets-append l i j xs (ys ++ zs) e
 
+pub length-bytes : (s : List ℕ) (k n : ℕ) → length (bytesAt s k n) ≡ n
+length-bytes s k zero = refl
+length-bytes s k (suc n) = ap suc (length-bytes s (suc k) n)
+
 pub getD-bytes : (s : List ℕ) (k n j : ℕ) → j < n → getD (bytesAt s k n) j 0 ≡ getD s (k + j) 0
 getD-bytes s k zero j h = absurd (omega arith)
 getD-bytes s k (suc n) zero h = rw add-zero
@@ -41,6 +46,83 @@ bytes-front s (x ∷ xs) ys k e =
     let h : getD s k 0 ≡ x = ap (λ (i : ℕ). getD s i 0) (sym (add-zero k)) ∙ sym (getD-drop k s 0 0) ∙ rw e in
     let t : drop (suc k) s ≡ xs ++ ys = ap (λ (i : ℕ). drop i s) (sym (add-one k)) ∙ drop-front s (x ∷ []) (xs ++ ys) k e in
     rw (h, bytes-front s xs ys (suc k) t)
+
+pub drop-bytes : (s : List ℕ) (k n : ℕ) → k + n ≤ length s → drop k s ≡ bytesAt s k n ++ drop (k + n) s
+drop-bytes s k zero h = rw add-zero
+drop-bytes s k (suc n) h = drop-cons s k 0 (omega arith) ∙ rw (add-suc, ← suc-add) (ap (λ (r : List ℕ). getD s k 0 ∷ r) (drop-bytes s (suc k) n (omega arith)))
+
+-- a run of stores that begins a list
+pub sets-start : (l xs : List ℕ) → length xs ≤ length l → sets l 0 xs ≡ xs ++ drop (length xs) l
+sets-start l xs h = rw zero-add at (sets-eq xs l 0 (rw zero-add h))
+
+-- what a run of stores leaves alone, and what stands where it was
+pub getD-sets-out : (xs l : List ℕ) (i j : ℕ) → (j < i) ⊎ (i + length xs ≤ j) → getD (sets l i xs) j 0 ≡ getD l j 0
+getD-sets-out [] l i j h = refl
+getD-sets-out (x ∷ xs) l i j (inl h) = getD-sets-out xs (set l i x) (suc i) j (inl (omega arith)) ∙ getD-set-other l i j x 0 (λ e. omega (arith, e))
+getD-sets-out (x ∷ xs) l i j (inr h) = getD-sets-out xs (set l i x) (suc i) j (inr (omega arith)) ∙ getD-set-other l i j x 0 (λ e. omega (arith, e))
+
+pub getD-sets-in : (l : List ℕ) (i k : ℕ) (vs : List ℕ) → k < length vs → i + k < length l → getD (sets l i vs) (i + k) 0 ≡ getD vs k 0
+getD-sets-in l i k [] a b = absurd (omega arith)
+getD-sets-in l i zero (v ∷ vs) a b = rw add-zero (getD-sets-out vs (set l i v) (suc i) i (inl (omega arith)) ∙ getD-set-same l i v 0 (omega arith))
+getD-sets-in l i (suc k) (v ∷ vs) a b = rw (add-suc, ← suc-add) (getD-sets-in (set l i v) (suc i) k vs (omega arith) (rw length-set (omega arith)))
+
+pub bytes-sets-out : (xs l : List ℕ) (i j n : ℕ) → (j + n ≤ i) ⊎ (i + length xs ≤ j) → bytesAt (sets l i xs) j n ≡ bytesAt l j n
+bytes-sets-out xs l i j zero h = refl
+bytes-sets-out xs l i j (suc n) (inl h) = rw (getD-sets-out xs l i j (inl (omega arith)), bytes-sets-out xs l i (suc j) n (inl (omega arith)))
+bytes-sets-out xs l i j (suc n) (inr h) = rw (getD-sets-out xs l i j (inr h), bytes-sets-out xs l i (suc j) n (inr (omega arith)))
+
+pub drop-sets : (xs l : List ℕ) (i : ℕ) → i + length xs ≤ length l → drop i (sets l i xs) ≡ xs ++ drop (i + length xs) l
+drop-sets xs l i h = rw (sets-eq xs l i h, append-assoc) (drop-at (take i l) (xs ++ drop (i + length xs) l) i (length-take-le i l (omega arith)))
+
+pub drop-sets-out : (xs l : List ℕ) (i j : ℕ) → i + length xs ≤ j → drop j (sets l i xs) ≡ drop j l
+drop-sets-out [] l i j h = refl
+drop-sets-out (x ∷ xs) l i j h = drop-sets-out xs (set l i x) (suc i) j (omega arith) ∙ drop-set-lt j l i x (omega arith)
+
+pub bytes-sets : (xs l : List ℕ) (i n : ℕ) → length xs ≡ n → i + n ≤ length l → bytesAt (sets l i xs) i n ≡ xs
+bytes-sets xs l i n e h = rw (← e) (bytes-front (sets l i xs) xs (drop (i + length xs) l) i (drop-sets xs l i (rw e h)))
+
+-- a run of stores over a list's beginning, as long as that
+sets-over : (xs ys zs : List ℕ) → length ys ≡ length xs → sets (xs ++ zs) 0 ys ≡ ys ++ zs
+sets-over xs ys zs e = sets-start (xs ++ zs) ys (rw (length-append, e) (omega arith)) ∙ rw (e, drop-append-seam)
+
+-- a store, and a run of stores, past a list's beginning
+set-past : (xs zs : List ℕ) (k y : ℕ) → set (xs ++ zs) (length xs + k) y ≡ xs ++ set zs k y
+set-past [] zs k y = rw zero-add
+set-past (x ∷ xs) zs k y = rw (suc-add, set-past xs zs k y)
+
+pub sets-past : (xs zs : List ℕ) (k : ℕ) (ys : List ℕ) → sets (xs ++ zs) (length xs + k) ys ≡ xs ++ sets zs k ys
+sets-past xs zs k [] = refl
+sets-past xs zs k (y ∷ ys) = rw (set-past xs zs k y, ← add-suc) (sets-past xs (set zs k y) (suc k) ys)
+
+drop-join-at : (ps : List (List ℕ)) (i : ℕ) → drop (sum (take i (map length ps))) (join ps) ≡ join (drop i ps)
+drop-join-at ps zero = refl
+drop-join-at [] (suc i) = refl
+drop-join-at (p ∷ ps) (suc i) = drop-append-add p (join ps) (sum (take i (map length ps))) ∙ drop-join-at ps i
+
+join-at : (ps : List (List ℕ)) (i : ℕ) → join (drop i ps) ≡ getD ps i [] ++ join (drop (suc i) ps)
+join-at [] zero = refl
+join-at [] (suc i) = refl
+join-at (p ∷ ps) zero = refl
+join-at (p ∷ ps) (suc i) = join-at ps i
+
+sets-join-at : (ps : List (List ℕ)) (i : ℕ) (ys : List ℕ) → length ys ≡ getD (map length ps) i 0 → sets (join ps) (sum (take i (map length ps))) ys ≡ join (set ps i ys)
+sets-join-at [] i [] e = refl
+sets-join-at [] i (y ∷ ys) e = absurd (omega arith)
+sets-join-at (p ∷ ps) zero ys e = sets-over p ys (join ps) e
+sets-join-at (p ∷ ps) (suc i) ys e = sets-past p (join ps) (sum (take i (map length ps))) ys ∙ rw (sets-join-at ps i ys e)
+
+-- Lists one after the other, of known lengths: where list i begins, what is read and what is written there
+module _ (ps : List (List ℕ)) (ws : List ℕ) (wide : map length ps ≡ ws) (i k : ℕ) (at : sum (take i ws) ≡ k) where
+  pub drop-join : drop k (join ps) ≡ join (drop i ps)
+  drop-join = rw (← at, ← wide) (drop-join-at ps i)
+
+  pub sets-join : (ys : List ℕ) → length ys ≡ getD ws i 0 → sets (join ps) k ys ≡ join (set ps i ys)
+  sets-join ys e = rw (← at, ← wide) (sets-join-at ps i ys (rw wide e))
+
+  pub bytes-join : (n : ℕ) → getD ws i 0 ≡ n → bytesAt (join ps) k n ≡ getD ps i []
+  bytes-join n e =
+      let l : length (getD ps i []) ≡ n = sym (List·getD-map length ps i []) ∙ rw wide e in
+      rw (← l) (bytes-front (join ps) (getD ps i []) (join (drop (suc i) ps)) k (drop-join ∙ join-at ps i))
 
 -- A loop that stores `turn p` at its turn p, from place to place: `rest p n` is what n turns from p on store.
 module _ (turn : ℕ → List ℕ) (rest : ℕ → ℕ → List ℕ) (more : (p n : ℕ) → rest p (suc n) ≡ turn p ++ rest (suc p) n) where

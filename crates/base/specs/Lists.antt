@@ -1,6 +1,6 @@
 -- Plain functions on lists that the definitions of the other crates are made of.
 use Prim.Native.Nat.{ℕ, zero, suc, _+_, max}
-use mathlib.Core.Bool.{Bool, true, false, cond, _&&_}
+use mathlib.Core.Bool.{Bool, true, false, cond, _&&_, _||_}
 use mathlib.Core.List.{List, [], _∷_, _++_, map}
 use lib.Dec.{eqb}
 use lib.ListN.{getD}
@@ -45,3 +45,17 @@ firstFailing (t ∷ ts) = cond (t .1) (firstFailing ts) (t .0)
 abbrev pub bytesAt : List ℕ → ℕ → ℕ → List ℕ
 bytesAt s i zero = []
 bytesAt s i (suc n) = getD s i 0 ∷ bytesAt s (suc i) n
+
+abbrev pub any : {A : Type 0} → (A → Bool) → List A → Bool
+any f [] = false
+any f (x ∷ xs) = f x || any f xs
+
+-- f at the n numbers from i on
+abbrev pub tabulate : {A : Type 0} → (ℕ → A) → ℕ → ℕ → List A
+tabulate f i zero = []
+tabulate f i (suc n) = f i ∷ tabulate f (suc i) n
+
+-- a truth as a byte
+abbrev pub flag : Bool → ℕ
+flag true = 1
+flag false = 0

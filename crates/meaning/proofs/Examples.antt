@@ -10,6 +10,7 @@ use Rattle.meaning.specs.declared.Form.the-variants.{File}
 use Rattle.meaning.specs.Kinds.{kindOf, numberOf, known, arity, testOf, testAllowed, conditionAllowed, goalAllowed, startAllowed, countAllowed, emptyAllowed, operandAllowed}
 use Rattle.meaning.specs.Tree.{fold, depth, size}
 use Rattle.meaning.specs.Program.{sizesAllowed, entriesFrom, entries, preorder, knownEntry, allowedEntry, arityOf, make, place, trees, treeOf, programRefusal}
+use Rattle.meaning.specs.Conditions.{Situation, Outcome, SATISFIED, VIOLATED, OPEN, outcome}
 use Rattle.meaning.specs.Table.{nextOf, block, tableOf, compiled, readRefusal}
 
 -- n REPEATs above a GOAL 0=1, one variable and no clock
@@ -50,3 +51,15 @@ table10 = 3 ∷ 1 ∷ 1 ∷ 4 ∷ 3 ∷ 255 ∷ 255 ∷ 2 ∷ 0 ∷ 0 ∷ 0 ∷ 
 station10 : compiled File file10 ≡ table10
 unfolding file10 table10 kindOf numberOf known arity fold depth size entriesFrom entries preorder arityOf make place trees treeOf nextOf block tableOf compiled
 station10 = refl
+
+-- Conditions at their bounds, by an estimate of 1, a clock that reads 5, and one that is not started
+abbrev tried : Situation
+tried = record { estimate = 1 ∷ []; started = 1 ∷ 0 ∷ []; starts = 5 ∷ 0 ∷ []; time = 10 }
+
+abbrev test : ℕ → ℕ → ℕ → Outcome
+test b0 b1 b2 = outcome tried (record { b0 = b0; b1 = b1; b2 = b2; b3 = 0 })
+
+conditions : test 1 0 1 ∷ test 1 0 2 ∷ test 2 0 1 ∷ test 2 0 2 ∷ test 3 0 5 ∷ test 3 0 6 ∷ test 4 0 5 ∷ test 4 0 6 ∷ test 3 1 0 ∷ test 4 1 5 ∷ []
+    ≡ SATISFIED ∷ VIOLATED ∷ VIOLATED ∷ SATISFIED ∷ SATISFIED ∷ VIOLATED ∷ VIOLATED ∷ SATISFIED ∷ OPEN ∷ OPEN ∷ []
+unfolding outcome testOf
+conditions = refl

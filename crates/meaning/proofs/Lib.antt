@@ -3,3 +3,4 @@ pub mod Trees
 pub mod Parsing
 pub mod Files
 pub mod Tables
+pub mod Records

@@ -45,11 +45,11 @@ rows-entries = part-ind RowsOf (λ p h n q x. rw (rows-law p n q x, preorder-law
 pub length-rows : (p : Part) (n q x : ℕ) → length (block p .rows n q x) ≡ size p
 length-rows p n q x = sym (length-map (block p .rows n q x) rowEntry) ∙ ap length (rows-entries p n q x) ∙ length-preorder p
 
-abbrev noRow : Row
+abbrev pub noRow : Row
 noRow = record { kind = 0; end = 0; parent = 0; next = 0; operand = counted 0 }
 
 -- the rows of a tree that is a whole program
-abbrev treeRows : Part → List Row
+abbrev pub treeRows : Part → List Row
 treeRows p = block p .rows 0 noPart noPart
 
 -- sizes and rows
@@ -58,7 +58,7 @@ module _ (h : List ℕ) (rs : List Row) (l : length h ≡ headerLength) where
   row-byte : (i j a : ℕ) → i < length rs → j < rowLength → a ≡ headerLength + (rowLength * i + j) → getD (h ++ flat rowBytes rs) a 0 ≡ getD (rowBytes (getD rs i noRow)) j 0
   row-byte i j a k m e = rw (e, past-header h (flat rowBytes rs) (rowLength * i + j) l) (piece-at rowBytes rowLength (λ r. refl) rs i j noRow 0 k m)
 
-  row-entry : (i : ℕ) → i < length rs → entryAt Table (h ++ flat rowBytes rs) i ≡ rowEntry (getD rs i noRow)
+  pub row-entry : (i : ℕ) → i < length rs → entryAt Table (h ++ flat rowBytes rs) i ≡ rowEntry (getD rs i noRow)
   row-entry i k =
       let o : ℕ = operandPlace Table 0 i in
       λ x.
@@ -77,7 +77,7 @@ module _ (h : List ℕ) (rs : List Row) (l : length h ≡ headerLength) where
       entries-at Table (h ++ flat rowBytes rs) (rowEntry noRow) (map rowEntry rs) (n ∙ sym (length-map rs rowEntry)) (λ i k. row-entry i (rw length-map at k) ∙ sym (List·getD-map rowEntry rs i noRow))
 
 module _ (v k : ℕ) (p : Part) (w : Within v k p) where
-  table-parts : parts (tableOf v k p) ≡ size p
+  pub table-parts : parts (tableOf v k p) ≡ size p
   unfolding tableOf
   table-parts = parts-back (size p) v k (flat rowBytes (treeRows p)) (w .size-fits)
 
@@ -328,17 +328,17 @@ module _ (v k : ℕ) (p : Part) (w : Within v k p) where
         let a : Linked i (rowAt p i) (drop (suc i) (treeRows p)) = row-linked p i l in
         omega (arith, rows-after p i)
 
-    end-at : endAt (tableOf v k p) i ≡ rowAt p i .end
+    pub end-at : endAt (tableOf v k p) i ≡ rowAt p i .end
     end-at = row-number i 1 l (omega arith) ∙ number-back (rowAt p i .end) [] (omega (arith, end-fits, w .size-fits))
 
-    parent-at : parentAt (tableOf v k p) i ≡ rowAt p i .parent
+    pub parent-at : parentAt (tableOf v k p) i ≡ rowAt p i .parent
     parent-at = row-number i (1 + numberWidth) l (omega arith) ∙ number-back (rowAt p i .parent) [] (go (row-linked p i l .parent-is))
       where
         go : (rowAt p i .parent ≡ noPart) ⊎ (rowAt p i .parent < i) → rowAt p i .parent ≤ noPart
         go (inl e) = omega arith
         go (inr e) = omega (arith, w .size-fits)
 
-    next-at : nextAt (tableOf v k p) i ≡ rowAt p i .next
+    pub next-at : nextAt (tableOf v k p) i ≡ rowAt p i .next
     next-at = row-number i (1 + 2 * numberWidth) l (omega arith) ∙ number-back (rowAt p i .next) [] (go (row-linked p i l .next-is))
       where
         go : (rowAt p i .next ≡ noPart) ⊎ ((rowAt p i .next ≡ i) ⊎ Followed i (rowAt p i) (drop (suc i) (treeRows p))) → rowAt p i .next ≤ noPart

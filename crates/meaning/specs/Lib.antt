@@ -4,3 +4,6 @@ pub mod Tree
 pub mod Program
 pub mod Table
 pub mod Answers
+pub mod Conditions
+pub mod Record
+pub mod Cycle

@@ -67,6 +67,10 @@ abbrev pub valueFrom : ℕ → List ℕ → ℕ
 valueFrom b [] = b
 valueFrom b (c ∷ cs) = b + 256 * valueFrom c cs
 
+-- "Times are whole seconds of 32 bits"
+abbrev pub timeWidth : ℕ
+timeWidth = 4
+
 -- A part's number as bytes, and the number that stands at place i of s
 abbrev pub numberBytes : ℕ → List ℕ
 numberBytes x = littleEndian numberWidth x

@@ -1,5 +1,5 @@
 -- Location table: the table of a program, the file that a table holds, and which byte lists are a table (refusal 9).
-use Prim.Native.Nat.{ℕ, suc, _+_, _*_}
+use Prim.Native.Nat.{ℕ, suc, _+_, _*_, _-_}
 use mathlib.Core.Bool.{Bool, cond, _&&_}
 use mathlib.Core.Option.{Option, none, some}
 use mathlib.Core.List.{List, [], _∷_, _++_, map}
@@ -11,9 +11,9 @@ use Rattle.meaning.specs.declared.Operand.{Operand}
 use Rattle.meaning.specs.declared.Form.{Form}
 use Rattle.meaning.specs.declared.Form.the-variants.{File, Table}
 use Rattle.meaning.specs.Sizes.{numberWidth, noPart, headerLength, rowLength, lengthOf, numberBytes, bytesAt, numberAt}
-use Rattle.meaning.specs.Kinds.{Kind, UNKNOWN, GOAL, START, WAIT, SEQ, PAR, MAINTAIN, CHOICE, REPEAT, numberOf}
+use Rattle.meaning.specs.Kinds.{Kind, UNKNOWN, GOAL, START, WAIT, SEQ, PAR, MAINTAIN, CHOICE, REPEAT, kindOf, numberOf}
 use Rattle.meaning.specs.Tree.{Part, fold, size}
-use Rattle.meaning.specs.Program.{parts, variables, clocks, sizeBytes, operandBytes, entries, arrays, treeOf, programRefusal}
+use Rattle.meaning.specs.Program.{parts, variables, clocks, sizeBytes, operandBytes, entryAt, entries, arrays, treeOf, programRefusal}
 
 -- "kind; end (one past the part's last descendant); parent; next; the operand"
 pub record Row : Type 0 where
@@ -86,6 +86,16 @@ parentAt t p = numberAt t (headerLength + rowLength * p + (1 + numberWidth))
 
 abbrev pub nextAt : List ℕ → ℕ → ℕ
 nextAt t p = numberAt t (headerLength + rowLength * p + (1 + 2 * numberWidth))
+
+abbrev pub kindAt : List ℕ → ℕ → Kind
+kindAt t p = kindOf (entryAt Table t p .kind)
+
+abbrev pub operandOf : List ℕ → ℕ → Operand
+operandOf t p = entryAt Table t p .operand
+
+-- how many parts stand inside part p
+abbrev pub insideOf : List ℕ → ℕ → ℕ
+insideOf t p = endAt t p - suc p
 
 -- The file that a table holds: its sizes, then its rows' kinds, then its rows' operands
 unfoldable pub fileIn : List ℕ → List ℕ

@@ -1,0 +1,431 @@
+-- Which parts are marked after a settling: those that were marked and did not end, and those that were initialised.
+use Prim.Native.Nat.{ℕ, zero, suc, _+_, _-_, _≤_, _<_}
+use native.Mathlib.Nat.{zero-add, add-zero, eq-or-lt-of-le, eq-zero-or-pos, sub-zero}
+use native.Mathlib.Omega.{arith}
+use mathlib.Core.Path.{_≡_, refl, sym, ap, _∙_, subst}
+use mathlib.Core.Logic.{_↔_, _⊎_, inl, inr, ⊎-map}
+use mathlib.Core.Bool.{Bool, true, false, false≢true, _&&_, or-true}
+use mathlib.Core.List.{List, [], _∷_}
+use lib.Dec.{eqb, leb}
+use lib.ListN.{length, getD, take, drop, length-drop}
+use lib.Seq.{length-sets, getD-drop, getD-take}
+use borrow.Author.Tests.{eqb-true, eqb-false, eq-eqb}
+use Rattle.base.specs.Lists.{any}
+use Rattle.base.proofs.Lists.{and-left, and-right}
+use Rattle.base.proofs.Stores.{length-bytes, getD-sets-in, getD-sets-out}
+use Rattle.meaning.specs.Sizes.{noPart}
+use Rattle.meaning.specs.Tree.{Part, goal, start, wait, seq, par, maintain, choice, repeat}
+use Rattle.meaning.specs.Program.{parts}
+use Rattle.meaning.specs.Table.{endAt, parentAt, nextAt, insideOf, isTable}
+use Rattle.meaning.specs.Conditions.{Situation}
+use Rattle.meaning.specs.Record.{marksPlace, recordLength, phaseOf, lastTime, marksIn, isMark, restZero, valuesAllowed, clocksAllowed, markedChildren, childrenAllowed, partAllowed, partsAllowed, rootAllowed, recordAllowed}
+use Rattle.meaning.specs.Cycle.{Fate, STAYS, ENDS, FIRST, SECOND, fresh, begun, settledFrom, situation, settledMarks}
+use Rattle.meaning.proofs.Tables.{Later, Inside, inside}
+use Rattle.meaning.proofs.Records.{length-fresh, length-settled}
+use Rattle.agreement.proofs.Lies.{Lies, own-kind, own-inside}
+use Rattle.agreement.proofs.Nesting.{lower, at, root-next, inside-root, nested}
+use Rattle.agreement.proofs.Followers.{Followed, Branches, next-nested, choice-branches}
+use Rattle.agreement.proofs.Settlings.{Marked, later, insideBefore, insideAfter, fateAt, Ends, TakesFirst, TakesSecond, marked-length, decides, decides-kind, composite-ends, deciding-stays, unmarked-unjudged, end-no-next, end-next, decides-first, decides-second, stays, kept-own}
+
+-- a part that was marked and does not end
+abbrev pub Kept : List ℕ → Situation → List ℕ → ℕ → Type 0
+Kept t s ms n = Marked ms n × (fateAt t s ms n ≡ ENDS → ⊥)
+
+-- part q, a deciding CHOICE, takes its child x
+abbrev pub Takes : List ℕ → Situation → List ℕ → ℕ → ℕ → Type 0
+Takes t s ms q x = (TakesFirst t s ms q × (suc q ≡ x)) ⊎ (TakesSecond t s ms q × (endAt t (suc q) ≡ x))
+
+-- part q initialises part x: its next where it ends, or the child that it takes
+abbrev pub Initialises : List ℕ → Situation → List ℕ → ℕ → ℕ → Type 0
+Initialises t s ms q x = (Ends t s ms q × (nextAt t q ≡ x) × (x ≡ noPart → ⊥)) ⊎ Takes t s ms q x
+
+-- part n is marked where the part `at`, itself or around it, is initialised by the part `by`
+pub record Initialised (t : List ℕ) (s : Situation) (ms : List ℕ) (n : ℕ) : Type 0 where
+  pub by : ℕ
+  pub at : ℕ
+  pub initialises : Initialises t s ms by at
+  pub from : at ≤ n
+  pub before : n < endAt t at
+  pub marked : Marked (fresh t at) (n - at)
+
+-- something is marked among the first of some marks
+any-at : (l : List ℕ) (k i : ℕ) → i < k → Marked l i → any isMark (take k l) ≡ true
+any-at [] k i a m = absurd (false≢true m)
+any-at (x ∷ l) zero i a m = absurd (omega arith)
+any-at (x ∷ l) (suc k) zero a m = rw m
+any-at (x ∷ l) (suc k) (suc i) a m = rw (any-at l k i (omega arith) m) (or-true (isMark x))
+
+-- marks from part p on in which part x is initialised: of part n
+module _ (t l : List ℕ) (p x n : ℕ) (a : p ≤ n) (b : p ≤ x) (c : x < endAt t x) where
+  begun-in : x ≤ n → n < endAt t x → n - p < length l → getD (begun t p x l) (n - p) 0 ≡ getD (fresh t x) (n - x) 0
+  begun-in d e f =
+      let k : x - p + (n - x) ≡ n - p = omega arith in
+      rw (← k) (getD-sets-in l (x - p) (n - x) (fresh t x) (omega (arith, length-fresh t x)) (omega arith))
+
+  begun-out : (x ≤ n → n < endAt t x → ⊥) → getD (begun t p x l) (n - p) 0 ≡ getD l (n - p) 0
+  begun-out d = go (lower n x)
+    where
+      go : (n < x) ⊎ (x ≤ n) → getD (begun t p x l) (n - p) 0 ≡ getD l (n - p) 0
+      go (inl e) = getD-sets-out (fresh t x) l (x - p) (n - p) (inl (omega arith))
+      go (inr e) = beyond (lower n (endAt t x))
+        where
+          beyond : (n < endAt t x) ⊎ (endAt t x ≤ n) → getD (begun t p x l) (n - p) 0 ≡ getD l (n - p) 0
+          beyond (inl g) = absurd (d e g)
+          beyond (inr g) = getD-sets-out (fresh t x) l (x - p) (n - p) (inr (omega (arith, length-fresh t x)))
+
+  begun-marked : Marked (begun t p x l) (n - p) → ((x ≤ n) × (n < endAt t x) × Marked (fresh t x) (n - x)) ⊎ Marked l (n - p)
+  begun-marked m = go (lower n x) (lower n (endAt t x))
+    where
+      go : (n < x) ⊎ (x ≤ n) → (n < endAt t x) ⊎ (endAt t x ≤ n) → ((x ≤ n) × (n < endAt t x) × Marked (fresh t x) (n - x)) ⊎ Marked l (n - p)
+      go (inl e) g = inr (rw (begun-out (λ u v. omega arith)) at m)
+      go (inr e) (inl g) =
+          let f : n - p < length l = rw length-sets at (marked-length (begun t p x l) (n - p) m) in
+          inl (e, g, rw (begun-in e g f) at m)
+      go (inr e) (inr g) = inr (rw (begun-out (λ u v. omega arith)) at m)
+
+-- a mark among marks that follow one
+cons-marked : (m : ℕ) (l : List ℕ) (p n : ℕ) → p ≤ n → Marked (m ∷ l) (n - p) → ((p ≡ n) × (isMark m ≡ true)) ⊎ ((p < n) × Marked l (n - suc p))
+cons-marked m l p n a h = go (eq-or-lt-of-le a)
+  where
+    go : (p ≡ n) ⊎ (p < n) → ((p ≡ n) × (isMark m ≡ true)) ⊎ ((p < n) × Marked l (n - suc p))
+    go (inl e) =
+        let z : n - p ≡ 0 = omega arith in
+        inl (e, rw z at h)
+    go (inr b) =
+        let z : n - p ≡ suc (n - suc p) = omega arith in
+        inr (b, rw z at h)
+
+marked-cons : (m : ℕ) (l : List ℕ) (p n : ℕ) → p < n → Marked l (n - suc p) → Marked (m ∷ l) (n - p)
+marked-cons m l p n a h =
+    let z : n - p ≡ suc (n - suc p) = omega arith in
+    rw z h
+
+-- among the marks of parts from q on, children of part u
+module _ (t : List ℕ) (u : ℕ) where
+  one-child : (l : List ℕ) (q i : ℕ) → Marked l i → parentAt t (q + i) ≡ u → 1 ≤ markedChildren t u q l
+  unfolding markedChildren
+  one-child [] q i m e = absurd (false≢true m)
+  one-child (x ∷ l) q zero m e = rw (m, eq-eqb (parentAt t q) u (rw add-zero at e)) (omega arith)
+  one-child (x ∷ l) q (suc i) m e =
+      let k : suc q + i ≡ q + suc i = omega arith in
+      omega (arith, one-child l (suc q) i m (rw k e))
+
+  two-children : (l : List ℕ) (q i j : ℕ) → i < j → Marked l i → parentAt t (q + i) ≡ u → Marked l j → parentAt t (q + j) ≡ u → 2 ≤ markedChildren t u q l
+  unfolding markedChildren
+  two-children [] q i j a m e n d = absurd (false≢true m)
+  two-children (x ∷ l) q i zero a m e n d = absurd (omega arith)
+  two-children (x ∷ l) q zero (suc j) a m e n d =
+      let k : suc q + j ≡ q + suc j = omega arith in
+      rw (m, eq-eqb (parentAt t q) u (rw add-zero at e)) (omega (arith, one-child l (suc q) j n (rw k d)))
+  two-children (x ∷ l) q (suc i) (suc j) a m e n d =
+      let c : suc q + i ≡ q + suc i = omega arith in
+      let k : suc q + j ≡ q + suc j = omega arith in
+      omega (arith, two-children l (suc q) i j (omega arith) m (rw c e) n (rw k d))
+
+-- each part of allowed marks is allowed
+allowed-at : (t : List ℕ) (phase : ℕ) (ms : List ℕ) (a p : ℕ) → partsAllowed t phase a ms ≡ true → p < length ms → partAllowed t phase (a + p) (getD ms p 0) (drop (suc p) ms) ≡ true
+unfolding partsAllowed
+allowed-at t phase [] a p h l = absurd (omega arith)
+allowed-at t phase (m ∷ ms) a zero h l = rw add-zero (and-left (partAllowed t phase a m ms) (partsAllowed t phase (suc a) ms) h)
+allowed-at t phase (m ∷ ms) a (suc p) h l =
+    let k : suc a + p ≡ a + suc p = omega arith in
+    rw k at (allowed-at t phase ms (suc a) p (and-right (partAllowed t phase a m ms) (partsAllowed t phase (suc a) ms) h) (omega arith))
+
+-- a mark after part p, as one of the marks after it
+after-part : (ms : List ℕ) (p n : ℕ) → p < n → Marked ms n → Marked (drop (suc p) ms) (n - suc p)
+after-part ms p n a m =
+    let e : suc p + (n - suc p) ≡ n = omega arith in
+    rw (getD-drop (suc p) ms (n - suc p) 0, e) m
+
+-- a mark inside part p
+inside-marked : (t ms : List ℕ) (p n : ℕ) → p < n → n < endAt t p → Marked ms n → insideBefore t ms p ≡ true
+inside-marked t ms p n a b m = any-at (drop (suc p) ms) (insideOf t p) (n - suc p) (omega arith) (after-part ms p n a m)
+
+-- two marked children of part u
+two-inside : (t ms : List ℕ) (u p x : ℕ) → u < p → p < x → x < endAt t u → Marked ms p → parentAt t p ≡ u → Marked ms x → parentAt t x ≡ u → 2 ≤ markedChildren t u (suc u) (take (insideOf t u) (drop (suc u) ms))
+two-inside t ms u p x a b c m e n d =
+    let i : suc u + (p - suc u) ≡ p = omega arith in
+    let j : suc u + (x - suc u) ≡ x = omega arith in
+    two-children t u (take (insideOf t u) (drop (suc u) ms)) (suc u) (p - suc u) (x - suc u) (omega arith) (taken p a (omega arith) m) (rw i e) (taken x (omega arith) c n) (rw j d)
+  where
+    taken : (q : ℕ) → u < q → q < endAt t u → Marked ms q → Marked (take (insideOf t u) (drop (suc u) ms)) (q - suc u)
+    taken q f g k = rw (getD-take (insideOf t u) (drop (suc u) ms) (q - suc u) 0 (omega arith)) (after-part ms u q f k)
+
+module _ (t : List ℕ) (h : isTable t ≡ true) (s : Situation) (ms : List ℕ) (long : length ms ≡ parts t) where
+  -- a part that initialises another was marked
+  by-marked : (q x : ℕ) → Initialises t s ms q x → Marked ms q
+  by-marked q x (inl i) = i .0 .0
+  by-marked q x (inr (inl i)) = i .0 .0
+  by-marked q x (inr (inr i)) = i .0 .0
+
+  number-fits : (p : ℕ) → Marked ms p → p < parts t
+  number-fits p m = rw long at (marked-length ms p m)
+
+  -- a part that decides has two children, and nothing is marked inside it before
+  decider : (q : ℕ) → Marked ms q → decides (fateAt t s ms q) ≡ true → Branches t q × (insideBefore t ms q ≡ false)
+  decider q m e =
+      let d = decides-kind s _ _ _ _ e in
+      (choice-branches t h q (number-fits q m) (d .0), d .1)
+
+  -- the child that it takes stands inside it
+  takes : (q x : ℕ) → Takes t s ms q x → (q < x) × (x < endAt t x) × (endAt t x ≤ endAt t q)
+  takes q x (inl i) = rw (← (i .1)) (omega (arith, decider q (i .0 .0) (ap decides (i .0 .1)) .0))
+  takes q x (inr i) = rw (← (i .1)) (omega (arith, decider q (i .0 .0) (ap decides (i .0 .1)) .0))
+
+  takes-empty : (q x : ℕ) → Takes t s ms q x → insideBefore t ms q ≡ false
+  takes-empty q x (inl i) = decider q (i .0 .0) (ap decides (i .0 .1)) .1
+  takes-empty q x (inr i) = decider q (i .0 .0) (ap decides (i .0 .1)) .1
+
+  -- where a part that is initialised stands: from the part on that initialises it, and up to any end that holds both it and its next
+  reaches : (q x hi : ℕ) → Initialises t s ms q x → endAt t q ≤ hi → (q < nextAt t q → (nextAt t q ≡ noPart → ⊥) → endAt t (nextAt t q) ≤ hi) → (q ≤ x) × (x < endAt t x) × (endAt t x ≤ hi)
+  reaches q x hi (inl i) e g = subst (λ y. (q ≤ y) × (y < endAt t y) × (endAt t y ≤ hi)) (i .1) (go (own .next-is))
+    where
+      own : Inside t q
+      own = inside t h q (number-fits q (i .0 .0))
+
+      go : (nextAt t q ≡ noPart) ⊎ ((nextAt t q ≡ q) ⊎ Later t q) → (q ≤ nextAt t q) × (nextAt t q < endAt t (nextAt t q)) × (endAt t (nextAt t q) ≤ hi)
+      go (inl z) = absurd (i .2 (sym (i .1) ∙ z))
+      go (inr (inl z)) = rw z (omega (arith, own .end-after))
+      go (inr (inr l)) = (omega (arith, l .after), inside t h (nextAt t q) (l .before-end) .end-after, g (l .after) (λ z. i .2 (sym (i .1) ∙ z)))
+  reaches q x hi (inr i) e g = omega (arith, takes q x i)
+
+  -- inside the table, and inside every part around
+  reaches-parts : (q x : ℕ) → Initialises t s ms q x → (q ≤ x) × (x < endAt t x) × (endAt t x ≤ parts t)
+  reaches-parts q x i =
+      let l = number-fits q (by-marked q x i) in
+      reaches q x (parts t) i (inside t h q l .end-within) (λ a d. later-within a d (inside t h q l .next-is))
+    where
+      later-within : q < nextAt t q → (nextAt t q ≡ noPart → ⊥) → (nextAt t q ≡ noPart) ⊎ ((nextAt t q ≡ q) ⊎ Later t q) → endAt t (nextAt t q) ≤ parts t
+      later-within a d (inl z) = absurd (d z)
+      later-within a d (inr (inl z)) = absurd (omega arith)
+      later-within a d (inr (inr l)) = inside t h (nextAt t q) (l .before-end) .end-within
+
+  reaches-inside : (n q x : ℕ) → Initialises t s ms q x → n < q → q < endAt t n → n < parts t → endAt t x ≤ endAt t n
+  reaches-inside n q x i a b c =
+      reaches q x (endAt t n) i (nested t h n q (a, b)) (λ l d.
+      let f = next-nested t h n q (a, b) l d in
+      omega (arith, f .next-within, f .parent-end)) .2
+
+  -- where a part ends nothing is marked inside it any more
+  ends-empty : (p : Part) {q u x : ℕ} → Lies t p q u x → Ends t s ms q → insideAfter t s ms q ≡ false
+  ends-empty (goal o) l e = rw (own-inside l)
+  ends-empty (start o) l e = rw (own-inside l)
+  ends-empty (wait o) l e = rw (own-inside l)
+  ends-empty (seq ps) {q} l e = composite-ends t s ms q (e .0) (inl (own-kind l)) .0 e
+  ends-empty (par ps) {q} l e = composite-ends t s ms q (e .0) (inr (inl (own-kind l))) .0 e
+  ends-empty (maintain o p) {q} l e = composite-ends t s ms q (e .0) (inr (inr (inl (own-kind l)))) .0 e
+  ends-empty (choice o a b) {q} l e = go (insideBefore t ms q) refl
+    where
+      go : (c : Bool) → insideBefore t ms q ≡ c → insideAfter t s ms q ≡ false
+      go true k = composite-ends t s ms q (e .0) (inr (inr (inr (inr (own-kind l, k))))) .0 e
+      go false k = absurd (deciding-stays t s ms q (e .0) (own-kind l) k e)
+  ends-empty (repeat p) {q} l e = composite-ends t s ms q (e .0) (inr (inr (inr (inl (own-kind l))))) .0 e
+
+  -- the marks from part p on after the settling, where it initialises a part and where it does not
+  turn-initialises : (p x : ℕ) → Initialises t s ms p x → (m : ℕ) × (isMark m ≡ true → Kept t s ms p) × (settledFrom t s p (drop p ms) ≡ begun t p x (m ∷ later t s ms p))
+  turn-initialises p x (inl i) =
+      (0, λ z. absurd (false≢true z), subst (λ y. settledFrom t s p (drop p ms) ≡ begun t p y (0 ∷ later t s ms p)) (i .1) (end-next t s ms p (i .0) (λ z. i .2 (sym (i .1) ∙ z))))
+  turn-initialises p x (inr (inl i)) =
+      let one : suc p - p ≡ 1 = omega arith in
+      (1, λ z. (i .0 .0, λ e. false≢true (ap decides (sym e ∙ i .0 .1))), subst (λ y. settledFrom t s p (drop p ms) ≡ begun t p y (1 ∷ later t s ms p)) (i .1) (rw one (decides-first t s ms p (i .0))))
+  turn-initialises p x (inr (inr i)) =
+      (1, λ z. (i .0 .0, λ e. false≢true (ap decides (sym e ∙ i .0 .1))), subst (λ y. settledFrom t s p (drop p ms) ≡ begun t p y (1 ∷ later t s ms p)) (i .1) (decides-second t s ms p (i .0)))
+
+  abbrev Turn : ℕ → Type 0
+  Turn p = ((x : ℕ) × Initialises t s ms p x) ⊎ ((m : ℕ) × (isMark m ≡ true → Kept t s ms p) × (settledFrom t s p (drop p ms) ≡ m ∷ later t s ms p))
+
+  turn : (p : ℕ) → p < length ms → Turn p
+  turn p l = judged (isMark (getD ms p 0)) refl
+    where
+      ended : Ends t s ms p → (b : Bool) → eqb (nextAt t p) noPart ≡ b → Turn p
+      ended e true n = inr (0, λ z. absurd (false≢true z), end-no-next t s ms p e (eqb-true (nextAt t p) noPart n))
+      ended e false n = inl (nextAt t p, inl (e, refl, eqb-false (nextAt t p) noPart n))
+
+      met : Marked ms p → (f : Fate) → fateAt t s ms p ≡ f → Turn p
+      met m STAYS e = inr (1, λ z. (m, λ d. stays-on (sym e ∙ d)), stays t s ms p (m, e))
+        where
+          stays-on : STAYS ≡ ENDS → ⊥
+          stays-on d = false≢true cc
+      met m ENDS e = ended (m, e) (eqb (nextAt t p) noPart) refl
+      met m FIRST e = inl (suc p, inr (inl ((m, e), refl)))
+      met m SECOND e = inl (endAt t (suc p), inr (inr ((m, e), refl)))
+
+      judged : (b : Bool) → isMark (getD ms p 0) ≡ b → Turn p
+      judged true m = met m (fateAt t s ms p) refl
+      judged false m = inr (0, λ z. absurd (false≢true z), unmarked-unjudged t s ms p l m)
+
+  -- a part marked once the parts from p on are settled
+  abbrev After : ℕ → ℕ → Type 0
+  After p n = Kept t s ms n ⊎ ((i : Initialised t s ms n) × (p ≤ i .by))
+
+  before-that : (p n : ℕ) → After (suc p) n → After p n
+  before-that p n (inl k) = inl k
+  before-that p n (inr i) = inr (i .0, omega (arith, i .1))
+
+  after-turn : (p n : ℕ) → p ≤ n → p < length ms → (p < n → Marked (later t s ms p) (n - suc p) → After (suc p) n) → Marked (settledFrom t s p (drop p ms)) (n - p) → After p n
+  after-turn p n a l ih h = go (turn p l)
+    where
+      own : (m : ℕ) → (isMark m ≡ true → Kept t s ms p) → ((p ≡ n) × (isMark m ≡ true)) ⊎ ((p < n) × Marked (later t s ms p) (n - suc p)) → After p n
+      own m k (inl e) = inl (subst (Kept t s ms) (e .0) (k (e .1)))
+      own m k (inr e) = before-that p n (ih (e .0) (e .1))
+
+      begins : (m x : ℕ) → Initialises t s ms p x → (isMark m ≡ true → Kept t s ms p) → ((x ≤ n) × (n < endAt t x) × Marked (fresh t x) (n - x)) ⊎ Marked (m ∷ later t s ms p) (n - p) → After p n
+      begins m x i k (inl e) = inr (record { by = p; at = x; initialises = i; from = e .0; before = e .1; marked = e .2 }, omega arith)
+      begins m x i k (inr e) = own m k (cons-marked m (later t s ms p) p n a e)
+
+      go : Turn p → After p n
+      go (inl i) =
+          let r = turn-initialises p (i .0) (i .1) in
+          let b = reaches-parts p (i .0) (i .1) in
+          begins (r .0) (i .0) (i .1) (r .1) (begun-marked t (r .0 ∷ later t s ms p) p (i .0) n a (b .0) (b .1) (rw (r .2) at h))
+      go (inr r) = own (r .0) (r .1) (cons-marked (r .0) (later t s ms p) p n a (rw (r .2) at h))
+
+  after-from : (k p : ℕ) → p + k ≡ length ms → (n : ℕ) → p ≤ n → Marked (settledFrom t s p (drop p ms)) (n - p) → After p n
+  after-from zero p e n a m = absurd (omega (arith, marked-length (settledFrom t s p (drop p ms)) (n - p) m, length-settled t s p (drop p ms), length-drop p ms))
+  after-from (suc k) p e n a m = after-turn p n a (omega arith) (λ b. after-from k (suc p) (omega arith) n b) m
+
+  -- a part marked after the settling was marked and did not end, or it was initialised
+  pub marked-after : (n : ℕ) → Marked (settledFrom t s 0 ms) n → Kept t s ms n ⊎ Initialised t s ms n
+  marked-after n m = ⊎-map (λ k. k) (λ i. i .0) (after-from (length ms) 0 (omega arith) n (omega arith) (rw sub-zero m))
+
+  -- "Newly marked parts": a part marked after the settling and not before was initialised
+  pub newly-marked : (n : ℕ) → Marked (settledFrom t s 0 ms) n → isMark (getD ms n 0) ≡ false → Initialised t s ms n
+  newly-marked n m b = go (marked-after n m)
+    where
+      go : Kept t s ms n ⊎ Initialised t s ms n → Initialised t s ms n
+      go (inl k) = absurd (false≢true (sym b ∙ k .0))
+      go (inr i) = i
+
+  module _ (phase : ℕ) (allowed : partsAllowed t phase 0 ms ≡ true) where
+    part-allowed : (p : ℕ) → p < parts t → partAllowed t phase p (getD ms p 0) (drop (suc p) ms) ≡ true
+    part-allowed p l = rw zero-add at (allowed-at t phase ms 0 p allowed (rw long l))
+
+    -- "nothing is marked inside an unmarked part"
+    around-marked : (u n : ℕ) → u < parts t → u < n → n < endAt t u → Marked ms n → Marked ms u
+    around-marked u n l a b m = go (isMark (getD ms u 0)) refl
+      where
+        go : (c : Bool) → isMark (getD ms u 0) ≡ c → Marked ms u
+        go true e = e
+        go false e = absurd (false≢true (rw (e, inside-marked t ms u n a b m) at (part-allowed u l)))
+
+    -- "a marked SEQ [..] has exactly one marked child": nothing is marked in the next of a marked child
+    next-unmarked : {n e p : ℕ} → Followed t n e p → p < parts t → Marked ms p → (y : ℕ) → nextAt t p ≤ y → y < endAt t (nextAt t p) → Marked ms y → ⊥
+    unfolding childrenAllowed
+    next-unmarked {p = p} f l m y a b d =
+        let u : ℕ = f .parent in
+        let x : ℕ = nextAt t p in
+        let fits : u < parts t = omega (arith, f .parent-before) in
+        let in-table : endAt t u ≤ parts t = inside t h u fits .end-within in
+        let own : p < x = omega (arith, f .next-is, inside t h p l .end-after) in
+        let marks : List ℕ = take (insideOf t u) (drop (suc u) ms) in
+        let sibling : Marked ms x = start-marked (eq-or-lt-of-le a) (omega (arith, f .next-before, f .next-within)) in
+        let parent-marked : Marked ms u = around-marked u p fits (f .parent-before) (omega (arith, f .next-before, f .next-within)) m in
+        let one : markedChildren t u (suc u) marks ≡ 1 = eqb-true (markedChildren t u (suc u) marks) 1 (rw (parent-marked, f .in-seq) at (part-allowed u fits)) in
+        omega (arith, one, two-inside t ms u p x (f .parent-before) own (omega (arith, f .next-before, f .next-within)) m (f .own-parent) sibling (f .next-parent))
+      where
+        start-marked : (nextAt t p ≡ y) ⊎ (nextAt t p < y) → nextAt t p < parts t → Marked ms (nextAt t p)
+        start-marked (inl e) c = rw e d
+        start-marked (inr g) c = around-marked (nextAt t p) y c g b d
+
+    -- in a part x that holds no mark before, and into which no part between p and x initialises, nothing is marked by the settling of the parts after p
+    none-there : (p x n : ℕ) → ((y : ℕ) → x ≤ y → y < endAt t x → Marked ms y → ⊥) → ((q y : ℕ) → p < q → q < x → Initialises t s ms q y → endAt t y ≤ x) → After (suc p) n → x ≤ n → n < endAt t x → ⊥
+    none-there p x n none low (inl k) b c = none n b c (k .0)
+    none-there p x n none low (inr k) b c = go (lower (i .by) x)
+      where
+        i : Initialised t s ms n
+        i = k .0
+
+        go : (i .by < x) ⊎ (x ≤ i .by) → ⊥
+        go (inl g) = omega (arith, low (i .by) (i .at) (k .1) g (i .initialises), i .before)
+        go (inr g) = none (i .by) g (omega (arith, reaches-parts (i .by) (i .at) (i .initialises), i .from)) (by-marked (i .by) (i .at) (i .initialises))
+
+    -- such is a part that part p initialises: its marks go over no other
+    untouched : (p x n : ℕ) → Initialises t s ms p x → p < n → After (suc p) n → Marked (later t s ms p) (n - suc p) → x ≤ n → n < endAt t x → ⊥
+    untouched p x n (inl i) a k m b c = next (inside t h p l .next-is)
+      where
+        l : p < parts t
+        l = number-fits p (i .0 .0)
+
+        not-root : (p ≡ 0) ⊎ (0 < p) → 0 < p
+        not-root (inl e) = absurd (i .2 (sym (i .1) ∙ rw e (root-next t h)))
+        not-root (inr g) = g
+
+        next : (nextAt t p ≡ noPart) ⊎ ((nextAt t p ≡ p) ⊎ Later t p) → ⊥
+        next (inl z) = i .2 (sym (i .1) ∙ z)
+        next (inr (inl z)) =
+            let y = at t h p l in
+            let e : p ≡ x = sym z ∙ i .1 in
+            let d : n < endAt t p = rw e c in
+            false≢true (sym (ends-empty (y .part) (y .lies) (i .0)) ∙ any-at (later t s ms p) (insideOf t p) (n - suc p) (omega arith) m)
+        next (inr (inr z)) =
+            let f = next-nested t h 0 p (inside-root t h p (not-root (eq-zero-or-pos p)) l) (z .after) (λ d. i .2 (sym (i .1) ∙ d)) in
+            none-there p x n
+            (rw (← (i .1)) (next-unmarked f l (i .0 .0)))
+            (λ q y u v j. rw (← (i .1), z .next-end) (reaches-inside p q y j u (rw (← (i .1), z .next-end) at v) l))
+            k b c
+    untouched p x n (inr i) a k m b c =
+        let r = takes p x i in
+        let none : (y : ℕ) → p < y → y < endAt t p → Marked ms y → ⊥ = λ y u v d. false≢true (sym (takes-empty p x i) ∙ inside-marked t ms p y u v d) in
+        none-there p x n
+        (λ y u v d. none y (omega (arith, r .0)) (omega (arith, r .2)) d)
+        (λ q y u v j. absurd (none q u (omega (arith, r .1, r .2)) (by-marked q y j)))
+        k b c
+
+    -- a mark set by the settling of the parts after part p stays
+    stays-marked : (p n : ℕ) → p < length ms → p < n → After (suc p) n → Marked (later t s ms p) (n - suc p) → Marked (settledFrom t s p (drop p ms)) (n - p)
+    stays-marked p n l a k m = go (turn p l)
+      where
+        go : Turn p → Marked (settledFrom t s p (drop p ms)) (n - p)
+        go (inl i) =
+            let r = turn-initialises p (i .0) (i .1) in
+            let b = reaches-parts p (i .0) (i .1) in
+            rw (r .2, begun-out t (r .0 ∷ later t s ms p) p (i .0) n (omega arith) (b .0) (b .1) (untouched p (i .0) n (i .1) a k m)) (marked-cons (r .0) (later t s ms p) p n a m)
+        go (inr r) = rw (r .2) (marked-cons (r .0) (later t s ms p) p n a m)
+
+    marked-turn : (p n : ℕ) → p < length ms → p ≤ n → (p < n → After (suc p) n → Marked (later t s ms p) (n - suc p)) → After p n → Marked (settledFrom t s p (drop p ms)) (n - p)
+    marked-turn p n l a ih (inl k) = go (eq-or-lt-of-le a)
+      where
+        go : (p ≡ n) ⊎ (p < n) → Marked (settledFrom t s p (drop p ms)) (n - p)
+        go (inl e) =
+            let z : n - p ≡ 0 = omega arith in
+            let own : Kept t s ms p = rw e k in
+            rw z (kept-own t h s ms p (rw long at l) (own .0) (own .1))
+        go (inr b) = stays-marked p n l b (inl k) (ih b (inl k))
+    marked-turn p n l a ih (inr k) = go (eq-or-lt-of-le (k .1))
+      where
+        i : Initialised t s ms n
+        i = k .0
+
+        own : Initialises t s ms p (i .at) → Marked (settledFrom t s p (drop p ms)) (n - p)
+        own j =
+            let r = turn-initialises p (i .at) j in
+            let b = reaches-parts p (i .at) j in
+            let d : n - p < suc (length (later t s ms p)) = omega (arith, length-settled t s (suc p) (drop (suc p) ms), length-drop (suc p) ms, i .before) in
+            rw (r .2, begun-in t (r .0 ∷ later t s ms p) p (i .at) n a (b .0) (b .1) (i .from) (i .before) d) (i .marked)
+
+        go : (p ≡ i .by) ⊎ (p < i .by) → Marked (settledFrom t s p (drop p ms)) (n - p)
+        go (inl e) = own (subst (λ q. Initialises t s ms q (i .at)) (sym e) (i .initialises))
+        go (inr b) =
+            let c : p < n = omega (arith, reaches-parts (i .by) (i .at) (i .initialises), i .from) in
+            stays-marked p n l c (inr (i, b)) (ih c (inr (i, b)))
+
+    marked-from : (k p : ℕ) → p + k ≡ length ms → (n : ℕ) → p ≤ n → After p n → Marked (settledFrom t s p (drop p ms)) (n - p)
+    marked-from zero p e n a (inl k) = absurd (omega (arith, marked-length ms n (k .0)))
+    marked-from zero p e n a (inr k) = absurd (omega (arith, marked-length ms (k .0 .by) (by-marked (k .0 .by) (k .0 .at) (k .0 .initialises)), k .1))
+    marked-from (suc k) p e n a c = marked-turn p n (omega arith) a (λ b. marked-from k (suc p) (omega arith) n b) c
+
+    -- the parts marked after a settling are those that were marked and did not end, and those that were initialised
+    pub settled-marks : (n : ℕ) → Marked (settledFrom t s 0 ms) n ↔ (Kept t s ms n ⊎ Initialised t s ms n)
+    settled-marks n = (marked-after n, λ k. rw sub-zero at (marked-from (length ms) 0 (omega arith) n (omega arith) (⊎-map (λ i. i) (λ i. (i, omega arith)) k)))
+
+-- the same of an allowed record of a table
+pub record-settled-marks : (t r est : List ℕ) → isTable t ≡ true → recordAllowed t r ≡ true → (n : ℕ) → Marked (settledMarks t r est) n ↔ (Kept t (situation t r est (lastTime r)) (marksIn t r) n ⊎ Initialised t (situation t r est (lastTime r)) (marksIn t r) n)
+unfolding recordAllowed
+record-settled-marks t r est h a =
+    let last : Bool = partsAllowed t (phaseOf r) 0 (marksIn t r) in
+    let fourth : Bool = rootAllowed (phaseOf r) (marksIn t r) && last in
+    let third : Bool = clocksAllowed t r && fourth in
+    let second : Bool = valuesAllowed t r && third in
+    let b = and-right (restZero t r) second (and-right (leb recordLength (length r)) (restZero t r && second) a) in
+    let c = and-right (rootAllowed (phaseOf r) (marksIn t r)) last (and-right (clocksAllowed t r) fourth (and-right (valuesAllowed t r) third b)) in
+    settled-marks t h (situation t r est (lastTime r)) (marksIn t r) (length-bytes r marksPlace (parts t)) (phaseOf r) c

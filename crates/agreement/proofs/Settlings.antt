@@ -1,0 +1,207 @@
+-- The sentences of document 01 about a settling over the table, part by part.
+use Prim.Native.Nat.{ℕ, suc, _-_, _≤_, _<_}
+use native.Mathlib.Omega.{arith}
+use mathlib.Core.Path.{_≡_, refl, sym, ap, _∙_}
+use mathlib.Core.Logic.{_↔_, _⊎_, inl, inr}
+use mathlib.Core.Bool.{Bool, true, false, cond, not, false≢true}
+use mathlib.Core.List.{List, _∷_}
+use lib.ListN.{length, getD, take, drop, List·getD-eq-default}
+use lib.Seq.{sets, drop-cons}
+use borrow.Author.Tests.{eq-eqb, ne-eqb}
+use Rattle.base.specs.Lists.{any}
+use Rattle.base.proofs.Stores.{getD-sets-out}
+use Rattle.meaning.specs.declared.Operand.{Operand}
+use Rattle.meaning.specs.Sizes.{noPart}
+use Rattle.meaning.specs.Kinds.{Kind, UNKNOWN, GOAL, START, WAIT, SEQ, PAR, MAINTAIN, CHOICE, REPEAT}
+use Rattle.meaning.specs.Program.{parts}
+use Rattle.meaning.specs.Table.{kindAt, operandOf, endAt, nextAt, insideOf, isTable}
+use Rattle.meaning.specs.Conditions.{Situation, reached, satisfied}
+use Rattle.meaning.specs.Record.{isMark}
+use Rattle.meaning.specs.Cycle.{Fate, STAYS, ENDS, FIRST, SECOND, endsIf, fate, fresh, applied, settledPart, settledFrom, rootEnded}
+use Rattle.agreement.proofs.Nesting.{lower, root-there, root-next}
+use Rattle.agreement.proofs.Followers.{choice-branches}
+
+-- For marks ms before a settling: part p is marked
+abbrev pub Marked : List ℕ → ℕ → Type 0
+Marked ms p = isMark (getD ms p 0) ≡ true
+
+-- "after this": the marks of the parts after part p once these are settled
+abbrev pub later : List ℕ → Situation → List ℕ → ℕ → List ℕ
+later t s ms p = settledFrom t s (suc p) (drop (suc p) ms)
+
+-- something is marked inside part p before the settling, and after that of what is inside it
+abbrev pub insideBefore : List ℕ → List ℕ → ℕ → Bool
+insideBefore t ms p = any isMark (take (insideOf t p) (drop (suc p) ms))
+
+abbrev pub insideAfter : List ℕ → Situation → List ℕ → ℕ → Bool
+insideAfter t s ms p = any isMark (take (insideOf t p) (later t s ms p))
+
+-- what becomes of part p where it is marked
+abbrev pub fateAt : List ℕ → Situation → List ℕ → ℕ → Fate
+fateAt t s ms p = fate s (kindAt t p) (operandOf t p) (insideBefore t ms p) (insideAfter t s ms p)
+
+abbrev pub Meets : Fate → List ℕ → Situation → List ℕ → ℕ → Type 0
+Meets f t s ms p = Marked ms p × (fateAt t s ms p ≡ f)
+
+-- a marked composite other than a deciding CHOICE
+abbrev pub Undeciding : List ℕ → List ℕ → ℕ → Type 0
+Undeciding t ms p = (kindAt t p ≡ SEQ) ⊎ (kindAt t p ≡ PAR) ⊎ (kindAt t p ≡ MAINTAIN) ⊎ (kindAt t p ≡ REPEAT) ⊎ ((kindAt t p ≡ CHOICE) × (insideBefore t ms p ≡ true))
+
+-- part p ends, and as a deciding CHOICE has its first child initialised, or its second
+abbrev pub Ends : List ℕ → Situation → List ℕ → ℕ → Type 0
+Ends = Meets ENDS
+
+abbrev pub TakesFirst : List ℕ → Situation → List ℕ → ℕ → Type 0
+TakesFirst = Meets FIRST
+
+abbrev pub TakesSecond : List ℕ → Situation → List ℕ → ℕ → Type 0
+TakesSecond = Meets SECOND
+
+-- a part that is marked has a mark
+pub marked-length : (ms : List ℕ) (p : ℕ) → Marked ms p → p < length ms
+marked-length ms p m = go (lower p (length ms))
+  where
+    go : (p < length ms) ⊎ (length ms ≤ p) → p < length ms
+    go (inl l) = l
+    go (inr l) = absurd (false≢true (rw (List·getD-eq-default ms 0 l) at m))
+
+-- to end, as a test says
+ends-if : (b : Bool) → (endsIf b ≡ ENDS) ↔ (b ≡ true)
+ends-if true = (λ e. refl, λ e. refl)
+ends-if false = (λ e. cc, λ e. cc)
+
+ends-not : (b : Bool) → (endsIf (not b) ≡ ENDS) ↔ (b ≡ false)
+ends-not true = (λ e. cc, λ e. cc)
+ends-not false = (λ e. refl, λ e. refl)
+
+ends-or : (f : Fate) → (f ≡ ENDS) ⊎ (f ≡ ENDS → ⊥)
+ends-or STAYS = inr (λ e. false≢true cc)
+ends-or ENDS = inl refl
+ends-or FIRST = inr (λ e. false≢true cc)
+ends-or SECOND = inr (λ e. false≢true cc)
+
+-- to decide is to take a child
+abbrev pub decides : Fate → Bool
+decides STAYS = false
+decides ENDS = false
+decides FIRST = true
+decides SECOND = true
+
+undecided : (b : Bool) → decides (endsIf b) ≡ true → ⊥
+undecided true e = false≢true e
+undecided false e = false≢true e
+
+-- a part that decides is a deciding CHOICE
+pub decides-kind : (s : Situation) (k : Kind) (o : Operand) (before after : Bool) → decides (fate s k o before after) ≡ true → (k ≡ CHOICE) × (before ≡ false)
+unfolding fate
+decides-kind s UNKNOWN o b a e = absurd (false≢true e)
+decides-kind s GOAL o b a e = absurd (undecided (reached s o) e)
+decides-kind s START o b a e = absurd (false≢true e)
+decides-kind s WAIT o b a e = absurd (undecided (satisfied s o) e)
+decides-kind s SEQ o b a e = absurd (undecided (not a) e)
+decides-kind s PAR o b a e = absurd (undecided (not a) e)
+decides-kind s MAINTAIN o b a e = absurd (undecided (not a) e)
+decides-kind s CHOICE o true a e = absurd (undecided (not a) e)
+decides-kind s CHOICE o false a e = (refl, refl)
+decides-kind s REPEAT o b a e = absurd (undecided (not a) e)
+
+module _ (t : List ℕ) (s : Situation) (ms : List ℕ) (p : ℕ) where
+  -- a marked part meets a fate where that is its fate
+  meets : {A : Type 0} {f : Fate} → Marked ms p → ((fateAt t s ms p ≡ f) ↔ A) → (Meets f t s ms p ↔ A)
+  meets m h = (λ e. h .0 (e .1), λ a. (m, h .1 a))
+
+  module _ (m : Marked ms p) where
+    -- "A marked GOAL ends when its variable has its value"
+    pub goal-ends : kindAt t p ≡ GOAL → (Ends t s ms p ↔ (reached s (operandOf t p) ≡ true))
+    unfolding fate
+    goal-ends k = meets m (rw k (ends-if (reached s (operandOf t p))))
+
+    -- "a WAIT when satisfied"
+    pub wait-ends : kindAt t p ≡ WAIT → (Ends t s ms p ↔ (satisfied s (operandOf t p) ≡ true))
+    unfolding fate
+    wait-ends k = meets m (rw k (ends-if (satisfied s (operandOf t p))))
+
+    -- "a START always"
+    pub start-ends : kindAt t p ≡ START → Ends t s ms p
+    unfolding fate
+    start-ends k = (m, rw k)
+
+    -- "one deciding before it has its first child initialised if satisfied, else its second", and it does not end
+    pub deciding-decides : kindAt t p ≡ CHOICE → insideBefore t ms p ≡ false → Meets (cond (satisfied s (operandOf t p)) FIRST SECOND) t s ms p
+    unfolding fate
+    deciding-decides k b = (m, rw (k, b))
+
+    pub deciding-stays : kindAt t p ≡ CHOICE → insideBefore t ms p ≡ false → Ends t s ms p → ⊥
+    deciding-stays k b e = neither (satisfied s (operandOf t p)) (sym (deciding-decides k b .1) ∙ e .1)
+      where
+        neither : (c : Bool) → cond c FIRST SECOND ≡ ENDS → ⊥
+        neither true d = false≢true cc
+        neither false d = false≢true cc
+
+    -- "Any other marked composite with nothing marked inside after this ends too, a CHOICE whose branch has just ended included"
+    pub composite-ends : Undeciding t ms p → (Ends t s ms p ↔ (insideAfter t s ms p ≡ false))
+    unfolding fate
+    composite-ends (inl k) = meets m (rw k (ends-not (insideAfter t s ms p)))
+    composite-ends (inr (inl k)) = meets m (rw k (ends-not (insideAfter t s ms p)))
+    composite-ends (inr (inr (inl k))) = meets m (rw k (ends-not (insideAfter t s ms p)))
+    composite-ends (inr (inr (inr (inl k)))) = meets m (rw k (ends-not (insideAfter t s ms p)))
+    composite-ends (inr (inr (inr (inr k)))) = meets m (rw (k .0, k .1) (ends-not (insideAfter t s ms p)))
+
+  -- the marks from part p on after a settling, from those after it
+  pub settled-at : p < length ms → settledFrom t s p (drop p ms) ≡ settledPart t s p (getD ms p 0) (drop (suc p) ms) (later t s ms p)
+  unfolding settledFrom
+  settled-at l = rw (drop-cons ms p 0 l)
+
+  -- a marked part, by its fate
+  settled-by : (f : Fate) → Meets f t s ms p → settledFrom t s p (drop p ms) ≡ applied t p f (later t s ms p)
+  settled-by f m = settled-at (marked-length ms p (m .0)) ∙ rw (m .0, m .1)
+
+  -- a part that is not marked before is not judged: "Newly marked parts are not judged, do not end"
+  pub unmarked-unjudged : p < length ms → isMark (getD ms p 0) ≡ false → settledFrom t s p (drop p ms) ≡ 0 ∷ later t s ms p
+  unmarked-unjudged l m = settled-at l ∙ rw m
+
+  -- "A part that ends loses its mark and then initialises its next, if it has one"
+  pub end-no-next : Ends t s ms p → nextAt t p ≡ noPart → settledFrom t s p (drop p ms) ≡ 0 ∷ later t s ms p
+  unfolding applied
+  end-no-next e n = settled-by ENDS e ∙ rw (eq-eqb (nextAt t p) noPart n)
+
+  pub end-next : Ends t s ms p → (nextAt t p ≡ noPart → ⊥) → settledFrom t s p (drop p ms) ≡ sets (0 ∷ later t s ms p) (nextAt t p - p) (fresh t (nextAt t p))
+  unfolding applied
+  end-next e n = settled-by ENDS e ∙ rw (ne-eqb (nextAt t p) noPart n)
+
+  -- a deciding CHOICE "has its first child initialised if satisfied, else its second"
+  pub decides-first : TakesFirst t s ms p → settledFrom t s p (drop p ms) ≡ sets (1 ∷ later t s ms p) 1 (fresh t (suc p))
+  unfolding applied
+  decides-first e =
+      let one : suc p - p ≡ 1 = omega arith in
+      rw one at (settled-by FIRST e)
+
+  pub decides-second : TakesSecond t s ms p → settledFrom t s p (drop p ms) ≡ sets (1 ∷ later t s ms p) (endAt t (suc p) - p) (fresh t (endAt t (suc p)))
+  unfolding applied
+  decides-second e = settled-by SECOND e
+
+  -- a part that neither ends nor decides keeps its mark
+  pub stays : Meets STAYS t s ms p → settledFrom t s p (drop p ms) ≡ 1 ∷ later t s ms p
+  unfolding applied
+  stays e = settled-by STAYS e
+
+module _ (t : List ℕ) (h : isTable t ≡ true) (s : Situation) (ms : List ℕ) where
+  -- a part that does not end keeps its mark
+  pub kept-own : (p : ℕ) → p < parts t → Marked ms p → (fateAt t s ms p ≡ ENDS → ⊥) → Marked (settledFrom t s p (drop p ms)) 0
+  kept-own p l m d = go (fateAt t s ms p) refl
+    where
+      go : (f : Fate) → fateAt t s ms p ≡ f → Marked (settledFrom t s p (drop p ms)) 0
+      go STAYS e = rw (stays t s ms p (m, e))
+      go ENDS e = absurd (d e)
+      go FIRST e = rw (decides-first t s ms p (m, e), getD-sets-out (fresh t (suc p)) (1 ∷ later t s ms p) 1 0 (inl (omega arith)))
+      go SECOND e =
+          let b = choice-branches t h p l (decides-kind s (kindAt t p) (operandOf t p) (insideBefore t ms p) (insideAfter t s ms p) (ap decides e) .0) in
+          rw (decides-second t s ms p (m, e), getD-sets-out (fresh t (endAt t (suc p))) (1 ∷ later t s ms p) (endAt t (suc p) - p) 0 (inl (omega (arith, b .first-end))))
+
+  -- "If the root ends, phase is 2": the root is found ended exactly where it ends
+  pub root-ends : Marked ms 0 → ((rootEnded (settledFrom t s 0 ms) ≡ true) ↔ Ends t s ms 0)
+  root-ends m = (λ r. go r (ends-or (fateAt t s ms 0)), λ e. rw (end-no-next t s ms 0 e (root-next t h)))
+    where
+      go : rootEnded (settledFrom t s 0 ms) ≡ true → (fateAt t s ms 0 ≡ ENDS) ⊎ (fateAt t s ms 0 ≡ ENDS → ⊥) → Ends t s ms 0
+      go r (inl e) = (m, e)
+      go r (inr d) = absurd (false≢true (rw (kept-own 0 (root-there t h) m d) at r))

@@ -1,0 +1,4 @@
+pub mod Unfolding
+pub mod Marks
+pub mod Runs
+pub mod Stations

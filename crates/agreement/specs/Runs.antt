@@ -1,0 +1,223 @@
+-- The two runs of demand 3: one program run by its table and by unfolding its tree, over one list of calls.
+use Prim.Native.Nat.{ℕ, _+_, _^_, _<_}
+use mathlib.Core.Path.{_≡_}
+use mathlib.Core.Logic.{_⊎_}
+use mathlib.Core.Bool.{Bool, true, cond, not, _&&_, _||_}
+use mathlib.Core.Option.{Option, none, some, Option·map}
+use mathlib.Core.List.{List, [], _∷_}
+use lib.Dec.{eqb, leb}
+use lib.ListN.{length, getD, replicate}
+use Rattle.base.specs.Lists.{all, firstFailing, bytesAt}
+use Rattle.meaning.specs.declared.Entry.{Entry}
+use Rattle.meaning.specs.Sizes.{maxValue}
+use Rattle.meaning.specs.Tree.{Part}
+use Rattle.meaning.specs.declared.Form.the-variants.{File}
+use Rattle.meaning.specs.Program.{variables, clocks, treeOf}
+use Rattle.meaning.specs.Table.{compiled}
+use Rattle.meaning.specs.Conditions.{Situation}
+use Rattle.meaning.specs.Record.{phaseOf, lastTime, estimateIn, startedIn, startsIn, recordLength, waiting, offered, finished}
+use Rattle.meaning.specs.Cycle.{beginRefusal, begunInto, noGoal, Names, valuesFor, goalBytes, clockFlags, clockStarts, offerRefusal, offeredInto, goalsInto, settleRefusal, settledInto}
+use Rattle.agreement.specs.Unfolding.{Rest, afresh, check, working, settle}
+
+-- A call: an offer's time and goal buffer, or a settling's estimate
+pub data Call : Type 0 where
+  offer : ℕ → List ℕ → Call
+  settling : List ℕ → Call
+
+-- What a call answers: a refusal, an offer's V goal bytes, or whether the run goes on
+pub data Reply : Type 0 where
+  refused : ℕ → Reply
+  goals : List ℕ → Reply
+  running done : Reply
+
+abbrev pub reply : ℕ → Reply → Reply
+reply n r = cond (eqb n 0) r (refused n)
+
+-- "the same 'running' or 'finished' from a settling": as the phase says afterwards
+abbrev pub settledReply : ℕ → Reply
+settledReply phase = cond (eqb phase finished) done running
+
+-- The run by the table: each call gets the table and the record as the last call left it
+abbrev pub tableReply : List ℕ → List ℕ → Call → Reply
+tableReply t r (offer time buffer) = reply (offerRefusal t r time (length buffer)) (goals (bytesAt (goalsInto t r time buffer) 0 (variables t)))
+tableReply t r (settling est) = reply (settleRefusal t r est) (settledReply (phaseOf (settledInto t r est)))
+
+abbrev pub tableNext : List ℕ → List ℕ → Call → List ℕ
+tableNext t r (offer time buffer) = offeredInto t r time (length buffer)
+tableNext t r (settling est) = settledInto t r est
+
+-- "a variable is contested where two of these give it different values": of what the GOALs at work give it, two differ
+abbrev pub Differ : List ℕ → Type 0
+Differ xs = (i : ℕ) × (j : ℕ) × (i < length xs) × (j < length xs) × (getD xs i 0 ≡ getD xs j 0 → ⊥)
+
+abbrev pub Contested : List Entry → ℕ → Type 0
+Contested es v = Differ (valuesFor v es)
+
+-- a name that an offer may give: a contested variable, or 255 exactly where none is contested
+abbrev pub NamesContested : ℕ → List Entry → ℕ → Type 0
+NamesContested n es name = ((name < n) × Contested es name) ⊎ ((name ≡ noGoal) × ((v : ℕ) → v < n → Contested es v → ⊥))
+
+-- The run by unfolding. "Its state is the phase, last time, estimate and clocks, and what remains of the tree", of which nothing does once it has ended
+pub record State (p : Part) : Type 0 where
+  pub phase : ℕ
+  pub time : ℕ
+  pub estimate : List ℕ
+  pub started : List ℕ
+  pub starts : List ℕ
+  pub rest : Option (Rest p)
+
+-- what the unfolding is fed of a call: never a table, a record or an answer
+pub data Fed : Type 0 where
+  offering : ℕ → ℕ → Fed
+  settled : List ℕ → Fed
+
+abbrev pub fed : Call → Fed
+fed (offer time buffer) = offering time (length buffer)
+fed (settling est) = settled est
+
+-- The table's run over a list of calls: the replies, and the record that it comes to
+abbrev pub tableReplies : List ℕ → List ℕ → List Call → List Reply
+tableReplies t r [] = []
+tableReplies t r (c ∷ cs) = tableReply t r c ∷ tableReplies t (tableNext t r c) cs
+
+abbrev pub tableAfter : List ℕ → List ℕ → List Call → List ℕ
+tableAfter t r [] = r
+tableAfter t r (c ∷ cs) = tableAfter t (tableNext t r c) cs
+
+-- "estimate not V bytes, or one above 250" (refusal 13)
+abbrev pub estimateFits : ℕ → List ℕ → Bool
+estimateFits v est = eqb (length est) v && all (λ x. leb x maxValue) est
+
+module _ (p : Part) where
+  -- "a run begins with the root afresh"
+  abbrev pub begin : ℕ → List ℕ → State p
+  begin k est = record { phase = waiting; time = 0; estimate = est; started = replicate k 0; starts = replicate k 0; rest = some (afresh p) }
+
+  -- "refusals 8 and 11 to 14 are as above", in the order of the operations
+  abbrev pub refusalOf : ℕ → State p → Fed → ℕ
+  refusalOf v st (offering time room) = firstFailing ((14, not (eqb (st .phase) finished)) ∷ (11, not (eqb (st .phase) offered)) ∷ (12, leb (st .time) time) ∷ (8, leb v room) ∷ [])
+  refusalOf v st (settled est) = firstFailing ((14, not (eqb (st .phase) finished)) ∷ (11, not (eqb (st .phase) waiting)) ∷ (13, estimateFits v est) ∷ [])
+
+  -- what conditions are judged by
+  abbrev pub situationOf : State p → List ℕ → ℕ → Situation
+  situationOf st est time = record { estimate = est; started = st .started; starts = st .starts; time = time }
+
+  abbrev pub workingOf : Option (Rest p) → List Entry
+  workingOf none = []
+  workingOf (some r) = working p r
+
+  -- the state after an offer that is not refused, with what is checked, and after a settling that is not refused
+  abbrev pub offeredState : State p → ℕ → State p
+  offeredState st time =
+      record {
+        phase = offered;
+        time = time;
+        estimate = st .estimate;
+        started = st .started;
+        starts = st .starts;
+        rest = Option·map (check (situationOf st (st .estimate) time) p) (st .rest);
+      }
+
+  abbrev pub settledRest : Situation → Option (Rest p) → Option (Rest p)
+  settledRest s none = none
+  settledRest s (some r) = settle s p r
+
+  abbrev pub phaseFor : Option (Rest p) → ℕ
+  phaseFor none = finished
+  phaseFor (some r) = waiting
+
+  abbrev pub settledState : State p → ℕ → List ℕ → State p
+  settledState st k est =
+      record {
+        phase = phaseFor (settledRest (situationOf st est (st .time)) (st .rest));
+        time = st .time;
+        estimate = est;
+        started = clockFlags k (workingOf (st .rest)) (st .started);
+        starts = clockStarts k (workingOf (st .rest)) (st .started) (st .starts) (st .time);
+        rest = settledRest (situationOf st est (st .time)) (st .rest);
+      }
+
+  -- "A refused call changes nothing"
+  abbrev pub acceptedNext : ℕ → State p → Fed → State p
+  acceptedNext k st (offering time room) = offeredState st time
+  acceptedNext k st (settled est) = settledState st k est
+
+  unfoldable pub treeNext : ℕ → ℕ → State p → Fed → State p
+  treeNext v k st c = cond (eqb (refusalOf v st c) 0) (acceptedNext k st c) st
+
+  -- "Goal bytes follow the offer's rule, over the GOALs that offer in what remains"
+  abbrev pub acceptedReply : ℕ → ℕ → State p → Fed → Reply
+  acceptedReply v k st (offering time room) = goals (goalBytes v (workingOf (offeredState st time .rest)))
+  acceptedReply v k st (settled est) = settledReply (settledState st k est .phase)
+
+  unfoldable pub treeReply : ℕ → ℕ → State p → Fed → Reply
+  treeReply v k st c = reply (refusalOf v st c) (acceptedReply v k st c)
+
+  -- The unfolding's run over a list of calls
+  abbrev pub treeReplies : ℕ → ℕ → State p → List Call → List Reply
+  treeReplies v k st [] = []
+  treeReplies v k st (c ∷ cs) = treeReply v k st (fed c) ∷ treeReplies v k (treeNext v k st (fed c)) cs
+
+  abbrev pub treeAfter : ℕ → ℕ → State p → List Call → State p
+  treeAfter v k st [] = st
+  treeAfter v k st (c ∷ cs) = treeAfter v k (treeNext v k st (fed c)) cs
+
+-- "The finishing cycle is the number of settlings not refused up to the moment at which the phase is first 2"
+abbrev pub counted : Reply → ℕ
+counted (refused n) = 0
+counted (goals g) = 0
+counted running = 1
+counted done = 1
+
+unfoldable pub tableFinishing : List ℕ → List ℕ → ℕ → List Call → Option ℕ
+tableFinishing t r n [] = cond (eqb (phaseOf r) finished) (some n) none
+tableFinishing t r n (c ∷ cs) = cond (eqb (phaseOf r) finished) (some n) (tableFinishing t (tableNext t r c) (n + counted (tableReply t r c)) cs)
+
+unfoldable pub treeFinishing : (p : Part) → ℕ → ℕ → State p → ℕ → List Call → Option ℕ
+treeFinishing p v k st n [] = cond (eqb (st .phase) finished) (some n) none
+treeFinishing p v k st n (c ∷ cs) = cond (eqb (st .phase) finished) (some n) (treeFinishing p v k (treeNext p v k st (fed c)) (n + counted (treeReply p v k st (fed c))) cs)
+
+-- "An offer names a variable that is contested in the unfolding, or 255 exactly where none is": whatever name the table's offer may give
+abbrev pub NameAlike : List ℕ → List ℕ → (p : Part) → State p → Call → Type 0
+NameAlike t r p st (offer time buffer) =
+    offerRefusal t r time (length buffer) ≡ 0
+    → (name : ℕ) → Names (bytesAt (goalsInto t r time buffer) 0 (variables t)) name → NamesContested (variables t) (workingOf p (offeredState p st time .rest)) name
+NameAlike t r p st (settling est) = Unit {0}
+
+abbrev pub NamesAlike : List ℕ → List ℕ → (p : Part) → ℕ → ℕ → State p → List Call → Type 0
+NamesAlike t r p v k st [] = Unit {0}
+NamesAlike t r p v k st (c ∷ cs) = NameAlike t r p st c × NamesAlike t (tableNext t r c) p v k (treeNext p v k st (fed c)) cs
+
+-- the replies of a run never refuse with 9, 10 or 15
+abbrev pub possible : Reply → Bool
+possible (refused n) = not (eqb n 9 || (eqb n 10 || eqb n 15))
+possible (goals g) = true
+possible running = true
+possible done = true
+
+-- The two runs are alike over a list of calls, from a record and a state on
+pub record Alike (t r : List ℕ) (p : Part) (v k : ℕ) (st : State p) (cs : List Call) : Type 0 where
+  pub replies : tableReplies t r cs ≡ treeReplies p v k st cs
+  pub names : NamesAlike t r p v k st cs
+  pub never : all possible (tableReplies t r cs) ≡ true
+  pub phases : phaseOf (tableAfter t r cs) ≡ treeAfter p v k st cs .phase
+  pub times : lastTime (tableAfter t r cs) ≡ treeAfter p v k st cs .time
+  pub estimates : estimateIn t (tableAfter t r cs) ≡ treeAfter p v k st cs .estimate
+  pub flags : startedIn t (tableAfter t r cs) ≡ treeAfter p v k st cs .started
+  pub clock-starts : startsIn t (tableAfter t r cs) ≡ treeAfter p v k st cs .starts
+  pub finishing : tableFinishing t r 0 cs ≡ treeFinishing p v k st 0 cs
+
+-- each offer's time is one of 32 bits
+abbrev pub Timed : List Call → Type 0
+Timed [] = Unit {0}
+Timed (offer time buffer ∷ cs) = (time < 2 ^ 32) × Timed cs
+Timed (settling est ∷ cs) = Timed cs
+
+-- Demand 3 for a program file, a first estimate, a record buffer and a list of calls: reading gives a tree; a beginning is refused by 13 or 8
+-- and then writes nothing ("a refused beginning starts neither run"); from one that is not refused on, the two runs are alike
+pub record RunsAlike (f est r : List ℕ) (cs : List Call) : Type 0 where
+  pub program : Part
+  pub read : treeOf File f ≡ some program
+  pub beginning : beginRefusal (compiled File f) est (length r) ≡ firstFailing ((13, estimateFits (variables f) est) ∷ (8, leb recordLength (length r)) ∷ [])
+  pub unbegun : (beginRefusal (compiled File f) est (length r) ≡ 0 → ⊥) → begunInto (compiled File f) est r ≡ r
+  pub begun : beginRefusal (compiled File f) est (length r) ≡ 0 → Alike (compiled File f) (begunInto (compiled File f) est r) program (variables f) (clocks f) (begin program (clocks f) est) cs

@@ -1,0 +1,182 @@
+-- Ten stations to be proved: a table of them, and what it is for one of them to hold by the table's definitions and by the unfolding.
+use Prim.Native.Nat.{ℕ, suc}
+use mathlib.Core.Bool.{Bool, true, false, cond, _&&_}
+use mathlib.Core.Option.{Option, none, some}
+use mathlib.Core.List.{List, [], _∷_, _++_}
+use lib.Dec.{eqb}
+use lib.ListN.{replicate}
+use Rattle.base.specs.Lists.{all, same}
+use Rattle.meaning.specs.declared.Form.the-variants.{File}
+use Rattle.meaning.specs.Tree.{Part}
+use Rattle.meaning.specs.Program.{variables, clocks, treeOf, programRefusal}
+use Rattle.meaning.specs.Table.{compiled}
+use Rattle.meaning.specs.Record.{recordLength, startedIn, startsIn}
+use Rattle.meaning.specs.Cycle.{beginRefusal, begunInto}
+use Rattle.agreement.specs.Runs.{Call, offer, settling, Reply, refused, goals, running, done, tableReplies, tableAfter, begin, treeReplies, treeAfter, tableFinishing, treeFinishing}
+
+-- A station: the program file, what reading answers (0, or its refusal), the first estimate, the calls, their replies, the finishing cycle,
+-- and each clock's started flag and start after the calls
+pub record Station : Type 0 where
+  pub file : List ℕ
+  pub answer : ℕ
+  pub first : List ℕ
+  pub calls : List Call
+  pub replies : List Reply
+  pub finishing : Option ℕ
+  pub started : List ℕ
+  pub starts : List ℕ
+
+-- "One variable, one clock, first estimate 0, unless said": n parts
+abbrev pub program : ℕ → List ℕ → List ℕ → List ℕ
+program n kinds operands = n ∷ 1 ∷ 1 ∷ (kinds ++ operands)
+
+-- an offer with a goal buffer of one byte, and a settling with the estimate of one variable
+abbrev pub at : ℕ → Call
+at time = offer time (7 ∷ [])
+
+abbrev pub with-estimate : ℕ → Call
+with-estimate e = settling (e ∷ [])
+
+abbrev pub goal-is : ℕ → Reply
+goal-is g = goals (g ∷ [])
+
+-- a program that starts no clock, one that starts its clock, and one that reading refuses
+abbrev pub station : List ℕ → ℕ → List Call → List Reply → Option ℕ → Station
+station f e cs rs n = record { file = f; answer = 0; first = e ∷ []; calls = cs; replies = rs; finishing = n; started = 0 ∷ []; starts = 0 ∷ [] }
+
+abbrev pub starting : List ℕ → List Call → List Reply → Option ℕ → ℕ → Station
+starting f cs rs n start = record { file = f; answer = 0; first = 0 ∷ []; calls = cs; replies = rs; finishing = n; started = 1 ∷ []; starts = start ∷ [] }
+
+abbrev pub turnedDown : List ℕ → ℕ → Station
+turnedDown f n = record { file = f; answer = n; first = []; calls = []; replies = []; finishing = none; started = []; starts = [] }
+
+-- GOAL 0=1; MAINTAIN(0≠2, GOAL 0=1); MAINTAIN(clock 0 below 5, GOAL 0=1)
+abbrev pub goal1 : List ℕ
+goal1 = program 1 (1 ∷ []) (0 ∷ 0 ∷ 1 ∷ 0 ∷ [])
+
+abbrev pub kept : List ℕ
+kept = program 2 (6 ∷ 1 ∷ []) (2 ∷ 0 ∷ 2 ∷ 0 ∷ 0 ∷ 0 ∷ 1 ∷ 0 ∷ [])
+
+abbrev pub limited : List ℕ
+limited = program 2 (6 ∷ 1 ∷ []) (4 ∷ 0 ∷ 5 ∷ 0 ∷ 0 ∷ 0 ∷ 1 ∷ 0 ∷ [])
+
+-- CHOICE(clock 0 at least 0; GOAL 0=1; GOAL 0=2); PAR(GOAL 0=1, GOAL 0=2); SEQ(START 0, START 0)
+abbrev pub branches : List ℕ
+branches = program 3 (7 ∷ 1 ∷ 1 ∷ []) (3 ∷ 0 ∷ 0 ∷ 0 ∷ 0 ∷ 0 ∷ 1 ∷ 0 ∷ 0 ∷ 0 ∷ 2 ∷ 0 ∷ [])
+
+abbrev pub contests : List ℕ
+contests = program 3 (5 ∷ 1 ∷ 1 ∷ []) (2 ∷ 0 ∷ 0 ∷ 0 ∷ 0 ∷ 0 ∷ 1 ∷ 0 ∷ 0 ∷ 0 ∷ 2 ∷ 0 ∷ [])
+
+abbrev pub starts2 : List ℕ
+starts2 = program 3 (4 ∷ 2 ∷ 2 ∷ []) (2 ∷ 0 ∷ 0 ∷ 0 ∷ 0 ∷ 0 ∷ 0 ∷ 0 ∷ 0 ∷ 0 ∷ 0 ∷ 0 ∷ [])
+
+-- station 10's file, which is also station 8's program, SEQ(START 0, WAIT clock 0 at least 10)
+abbrev pub waits : List ℕ
+waits = 0x03 ∷ 0x01 ∷ 0x01 ∷ 0x04 ∷ 0x02 ∷ 0x03 ∷ 0x02 ∷ 0x00 ∷ 0x00 ∷ 0x00 ∷ 0x00 ∷ 0x00 ∷ 0x00 ∷ 0x00 ∷ 0x03 ∷ 0x00 ∷ 0x0A ∷ 0x00 ∷ []
+
+-- n REPEATs above a GOAL
+abbrev pub repeats : ℕ → List ℕ
+repeats n = program (suc n) (replicate n 8 ++ (1 ∷ [])) (replicate n 0 ++ (replicate n 0 ++ (replicate n 0 ++ (replicate n 0 ++ (0 ∷ 0 ∷ 1 ∷ 0 ∷ [])))))
+
+-- Stations 1 to 9 in their order; 2 with "any settling" at either side of its condition, 3 at the least and the greatest first time
+unfoldable pub stations : List Station
+stations =
+    station goal1 0 (at 0 ∷ with-estimate 0 ∷ at 0 ∷ with-estimate 1 ∷ []) (goal-is 1 ∷ running ∷ goal-is 1 ∷ done ∷ []) (some 2)
+    ∷ station kept 2 (at 0 ∷ with-estimate 0 ∷ []) (goal-is 255 ∷ done ∷ []) (some 1)
+    ∷ station kept 2 (at 0 ∷ with-estimate 2 ∷ []) (goal-is 255 ∷ done ∷ []) (some 1)
+    ∷ station limited 0 (at 0 ∷ []) (goal-is 1 ∷ []) none
+    ∷ station limited 0 (at 4294967295 ∷ []) (goal-is 1 ∷ []) none
+    ∷ station branches 0 (at 0 ∷ with-estimate 0 ∷ at 0 ∷ []) (goal-is 255 ∷ running ∷ goal-is 2 ∷ []) none
+    ∷ station contests 0 (at 0 ∷ with-estimate 1 ∷ at 0 ∷ []) (goal-is 254 ∷ running ∷ goal-is 2 ∷ []) none
+    ∷ station (repeats 1) 0 (at 0 ∷ with-estimate 1 ∷ at 0 ∷ []) (goal-is 1 ∷ running ∷ goal-is 1 ∷ []) none
+    ∷ starting starts2 (at 10 ∷ with-estimate 0 ∷ at 20 ∷ with-estimate 0 ∷ []) (goal-is 255 ∷ running ∷ goal-is 255 ∷ done ∷ []) (some 2) 10
+    ∷ starting waits (at 100 ∷ with-estimate 0 ∷ at 109 ∷ with-estimate 0 ∷ at 110 ∷ with-estimate 0 ∷ []) (goal-is 255 ∷ running ∷ goal-is 255 ∷ running ∷ goal-is 255 ∷ done ∷ []) (some 3) 100
+    ∷ station (repeats 15) 0 (at 0 ∷ []) (goal-is 1 ∷ []) none
+    ∷ turnedDown (repeats 16) 7
+    ∷ []
+
+-- What no station tries: WAIT 0=1, SEQ(START 0, WAIT clock 0 below 5) on either side of its bound, and refused calls, which change nothing:
+-- settling first (11), an estimate above 250 and one too long (13), an offer after an offer (11), before the last time (12), with no
+-- room (8), and any call after the end (14)
+abbrev pub waitsValue : List ℕ
+waitsValue = program 1 (3 ∷ []) (1 ∷ 0 ∷ 1 ∷ 0 ∷ [])
+
+abbrev pub waitsBelow : List ℕ
+waitsBelow = program 3 (4 ∷ 2 ∷ 3 ∷ []) (2 ∷ 0 ∷ 0 ∷ 0 ∷ 0 ∷ 0 ∷ 0 ∷ 0 ∷ 4 ∷ 0 ∷ 5 ∷ 0 ∷ [])
+
+unfoldable pub further : List Station
+further =
+    station waitsValue 0 (at 0 ∷ with-estimate 0 ∷ at 0 ∷ with-estimate 1 ∷ []) (goal-is 255 ∷ running ∷ goal-is 255 ∷ done ∷ []) (some 2)
+    ∷ starting waitsBelow (at 10 ∷ with-estimate 0 ∷ at 15 ∷ with-estimate 0 ∷ []) (goal-is 255 ∷ running ∷ goal-is 255 ∷ running ∷ []) none 10
+    ∷ starting waitsBelow (at 10 ∷ with-estimate 0 ∷ at 14 ∷ with-estimate 0 ∷ []) (goal-is 255 ∷ running ∷ goal-is 255 ∷ done ∷ []) (some 2) 10
+    ∷ station goal1 0 (with-estimate 0 ∷ at 5 ∷ with-estimate 251 ∷ settling (0 ∷ 0 ∷ []) ∷ at 5 ∷ with-estimate 0 ∷ []) (refused 11 ∷ goal-is 1 ∷ refused 13 ∷ refused 13 ∷ refused 11 ∷ running ∷ []) none
+    ∷ station goal1 0 (at 5 ∷ with-estimate 0 ∷ at 4 ∷ offer 5 [] ∷ at 5 ∷ with-estimate 1 ∷ at 6 ∷ with-estimate 1 ∷ []) (goal-is 1 ∷ running ∷ refused 12 ∷ refused 8 ∷ goal-is 1 ∷ done ∷ refused 14 ∷ refused 14 ∷ []) (some 2)
+    ∷ []
+
+-- Station 10: "The file .. and its table below"
+abbrev pub table10 : List ℕ
+table10 =
+    3 ∷ 1 ∷ 1
+    ∷ 4 ∷ 3 ∷ 255 ∷ 255 ∷ 2 ∷ 0 ∷ 0 ∷ 0
+    ∷ 2 ∷ 2 ∷ 0 ∷ 2 ∷ 0 ∷ 0 ∷ 0 ∷ 0
+    ∷ 3 ∷ 3 ∷ 0 ∷ 255 ∷ 3 ∷ 0 ∷ 10 ∷ 0
+    ∷ []
+
+unfoldable pub sameReply : Reply → Reply → Bool
+sameReply (refused m) (refused n) = eqb m n
+sameReply (refused m) (goals h) = false
+sameReply (refused m) running = false
+sameReply (refused m) done = false
+sameReply (goals g) (refused n) = false
+sameReply (goals g) (goals h) = same g h
+sameReply (goals g) running = false
+sameReply (goals g) done = false
+sameReply running (refused n) = false
+sameReply running (goals h) = false
+sameReply running running = true
+sameReply running done = false
+sameReply done (refused n) = false
+sameReply done (goals h) = false
+sameReply done running = false
+sameReply done done = true
+
+unfoldable pub sameReplies : List Reply → List Reply → Bool
+sameReplies [] [] = true
+sameReplies [] (y ∷ ys) = false
+sameReplies (x ∷ xs) [] = false
+sameReplies (x ∷ xs) (y ∷ ys) = sameReply x y && sameReplies xs ys
+
+abbrev pub sameNumber : Option ℕ → Option ℕ → Bool
+sameNumber none none = true
+sameNumber none (some n) = false
+sameNumber (some m) none = false
+sameNumber (some m) (some n) = eqb m n
+
+-- by the table: from the file's bytes through the table's and the record's
+unfoldable pub byTable : Station → Bool
+byTable x =
+    let t = compiled File (x .file) in
+    let r = begunInto t (x .first) (replicate recordLength 9) in
+    let after = tableAfter t r (x .calls) in
+    eqb (beginRefusal t (x .first) recordLength) 0
+    && (sameReplies (tableReplies t r (x .calls)) (x .replies)
+    && (sameNumber (tableFinishing t r 0 (x .calls)) (x .finishing)
+    && (same (startedIn t after) (x .started) && same (startsIn t after) (x .starts))))
+
+-- by unfolding the tree
+unfoldable pub byTree : Station → Option Part → Bool
+byTree x none = false
+byTree x (some p) =
+    let v = variables (x .file) in
+    let k = clocks (x .file) in
+    let b = begin p k (x .first) in
+    let after = treeAfter p v k b (x .calls) in
+    sameReplies (treeReplies p v k b (x .calls)) (x .replies)
+    && (sameNumber (treeFinishing p v k b 0 (x .calls)) (x .finishing)
+    && (same (after .started) (x .started) && same (after .starts) (x .starts)))
+
+unfoldable pub holds : Station → Bool
+holds x = eqb (programRefusal File (x .file)) (x .answer) && cond (eqb (x .answer) 0) (byTable x && byTree x (treeOf File (x .file))) true
+
+abbrev pub allHold : Bool
+allHold = all holds stations && (same (compiled File waits) table10 && all holds further)

@@ -1,0 +1,234 @@
+-- Beginning a run, and one cycle over the table: an offer, then a settling.
+use Prim.Native.Nat.{ℕ, zero, suc, _-_, _<_}
+use mathlib.Core.Path.{_≡_}
+use mathlib.Core.Bool.{Bool, true, false, cond, not, _&&_, _||_}
+use mathlib.Core.Logic.{_⊎_}
+use mathlib.Core.List.{List, [], _∷_, _++_}
+use lib.Dec.{eqb, leb}
+use lib.ListN.{length, getD, take, set, replicate}
+use lib.Seq.{sets}
+use Rattle.base.specs.Lists.{all, any, flat, tabulate, flag, firstFailing}
+use Rattle.meaning.specs.declared.Operand.{Operand}
+use Rattle.meaning.specs.declared.Entry.{Entry}
+use Rattle.meaning.specs.declared.Form.the-variants.{Table}
+use Rattle.meaning.specs.Sizes.{maxValue, timeWidth, noPart, littleEndian}
+use Rattle.meaning.specs.Kinds.{Kind, UNKNOWN, GOAL, START, WAIT, SEQ, PAR, MAINTAIN, CHOICE, REPEAT, numberOf, value}
+use Rattle.meaning.specs.Program.{variables, clocks, entryAt}
+use Rattle.meaning.specs.Table.{kindAt, operandOf, endAt, parentAt, nextAt, insideOf, isTable}
+use Rattle.meaning.specs.Conditions.{Situation, reached, satisfied, violated}
+use Rattle.meaning.specs.Record.{timePlace, estimatePlace, startedPlace, startsPlace, marksPlace, recordLength, phaseOf, lastTime, estimateIn, startedIn, startsIn, marksIn, waiting, offered, finished, isMark, recordBytes, recordAllowed}
+
+-- "To initialise is to mark the part and initialise SEQ's first child, all of PAR's, MAINTAIN's and REPEAT's child, and none of CHOICE's":
+-- whether part p, inside part q of a kind, is initialised with it
+unfoldable pub beginsIn : Kind → ℕ → ℕ → Bool
+beginsIn UNKNOWN q p = false
+beginsIn GOAL q p = false
+beginsIn START q p = false
+beginsIn WAIT q p = false
+beginsIn SEQ q p = eqb p (suc q)
+beginsIn PAR q p = true
+beginsIn MAINTAIN q p = true
+beginsIn CHOICE q p = false
+beginsIn REPEAT q p = true
+
+abbrev pub begins : List ℕ → ℕ → Bool
+begins t p = beginsIn (kindAt t (parentAt t p)) (parentAt t p) p
+
+-- the marks of n parts from p on that stand in an initialised part; the first `skip` of them stand in a part that is not
+unfoldable pub freshFrom : List ℕ → ℕ → ℕ → ℕ → List ℕ
+freshFrom t p zero skip = []
+freshFrom t p (suc n) zero = flag (begins t p) ∷ freshFrom t (suc p) n (cond (begins t p) 0 (insideOf t p))
+freshFrom t p (suc n) (suc skip) = 0 ∷ freshFrom t (suc p) n skip
+
+-- the marks of part q and of all parts inside it once it is initialised
+unfoldable pub fresh : List ℕ → ℕ → List ℕ
+fresh t q = 1 ∷ freshFrom t (suc q) (insideOf t q) 0
+
+-- Offer. "From the root down, a marked MAINTAIN whose condition is violated by the stored estimate and this time loses every mark inside it and stays marked"
+abbrev pub isKind : Kind → Entry → Bool
+isKind k e = eqb (e .kind) (numberOf k)
+
+abbrev pub breaks : List ℕ → Situation → ℕ → ℕ → Bool
+breaks t s p m = isMark m && (isKind MAINTAIN (entryAt Table t p) && violated s (operandOf t p))
+
+-- the marks from part p on after that; the first `skip` of them stand in such a MAINTAIN
+unfoldable pub checkedFrom : List ℕ → Situation → ℕ → List ℕ → ℕ → List ℕ
+checkedFrom t s p [] skip = []
+checkedFrom t s p (m ∷ ms) zero = m ∷ checkedFrom t s (suc p) ms (cond (breaks t s p m) (insideOf t p) 0)
+checkedFrom t s p (m ∷ ms) (suc skip) = 0 ∷ checkedFrom t s (suc p) ms skip
+
+-- The marked leaves, in the order of their parts: "Kinds 1 to 3 are the leaves"
+abbrev pub isLeaf : Entry → Bool
+isLeaf e = isKind GOAL e || (isKind START e || isKind WAIT e)
+
+unfoldable pub leavesFrom : List ℕ → ℕ → List ℕ → List Entry
+leavesFrom t p [] = []
+leavesFrom t p (m ∷ ms) = cond (isMark m && isLeaf (entryAt Table t p)) (entryAt Table t p ∷ []) [] ++ leavesFrom t (suc p) ms
+
+-- "each is 255 where no marked GOAL names that variable, the value where all agree, 254 where two differ (contested)"
+abbrev pub noGoal : ℕ
+noGoal = 255
+
+abbrev pub contested : ℕ
+contested = 254
+
+unfoldable pub valuesFor : ℕ → List Entry → List ℕ
+valuesFor v [] = []
+valuesFor v (e ∷ es) = cond (isKind GOAL e && eqb (e .operand .b1) v) (value (e .operand) ∷ []) [] ++ valuesFor v es
+
+abbrev pub goalByte : List ℕ → ℕ
+goalByte [] = noGoal
+goalByte (x ∷ xs) = cond (all (eqb x) xs) x contested
+
+unfoldable pub goalBytes : ℕ → List Entry → List ℕ
+goalBytes n es = tabulate (λ v. goalByte (valuesFor v es)) 0 n
+
+-- "one contested variable, any of them, or 255 exactly where none is contested"
+abbrev pub Names : List ℕ → ℕ → Type 0
+Names goals n = ((n < length goals) × (getD goals n 0 ≡ contested)) ⊎ ((n ≡ noGoal) × ((v : ℕ) → v < length goals → getD goals v 0 ≡ contested → ⊥))
+
+-- Settling. What becomes of a marked part
+pub data Fate : Type 0 where
+  STAYS ENDS FIRST SECOND : Fate
+
+abbrev pub endsIf : Bool → Fate
+endsIf true = ENDS
+endsIf false = STAYS
+
+-- "A marked GOAL ends when its variable has its value, a WAIT when satisfied, a START always"; a deciding CHOICE (document 01's term: marked,
+-- with nothing marked inside) has "its first child initialised if satisfied, else its second"; "Any other marked composite with nothing marked
+-- inside after this ends too". `before` and `after` say whether something is marked inside, before and after the settling of what is inside
+unfoldable pub fate : Situation → Kind → Operand → Bool → Bool → Fate
+fate s UNKNOWN o before after = STAYS
+fate s GOAL o before after = endsIf (reached s o)
+fate s START o before after = ENDS
+fate s WAIT o before after = endsIf (satisfied s o)
+fate s SEQ o before after = endsIf (not after)
+fate s PAR o before after = endsIf (not after)
+fate s MAINTAIN o before after = endsIf (not after)
+fate s CHOICE o before after = cond before (endsIf (not after)) (cond (satisfied s o) FIRST SECOND)
+fate s REPEAT o before after = endsIf (not after)
+
+-- marks from part p on, in which part q is initialised
+abbrev pub begun : List ℕ → ℕ → ℕ → List ℕ → List ℕ
+begun t p q ms = sets ms (q - p) (fresh t q)
+
+-- "A part that ends loses its mark and then initialises its next, if it has one"
+unfoldable pub applied : List ℕ → ℕ → Fate → List ℕ → List ℕ
+applied t p STAYS rest = 1 ∷ rest
+applied t p ENDS rest = cond (eqb (nextAt t p) noPart) (0 ∷ rest) (begun t p (nextAt t p) (0 ∷ rest))
+applied t p FIRST rest = begun t p (suc p) (1 ∷ rest)
+applied t p SECOND rest = begun t p (endAt t (suc p)) (1 ∷ rest)
+
+-- part p, marked m before, with the marks after it before and after their own settling
+abbrev pub settledPart : List ℕ → Situation → ℕ → ℕ → List ℕ → List ℕ → List ℕ
+settledPart t s p m ms rest =
+    cond (isMark m)
+    (applied t p (fate s (kindAt t p) (operandOf t p) (any isMark (take (insideOf t p) ms)) (any isMark (take (insideOf t p) rest))) rest)
+    (0 ∷ rest)
+
+-- the marks from part p on after a settling: the parts inside a part are settled before it, and the marks before the settling say which are judged
+unfoldable pub settledFrom : List ℕ → Situation → ℕ → List ℕ → List ℕ
+settledFrom t s p [] = []
+settledFrom t s p (m ∷ ms) = settledPart t s p m ms (settledFrom t s (suc p) ms)
+
+-- "A marked START starts its clock at the last time unless that clock is already started"
+abbrev pub startsClock : ℕ → Entry → Bool
+startsClock c e = isKind START e && eqb (e .operand .b1) c
+
+abbrev pub clockFlags : ℕ → List Entry → List ℕ → List ℕ
+clockFlags n es started = tabulate (λ c. flag (isMark (getD started c 0) || any (startsClock c) es)) 0 n
+
+abbrev pub clockStarts : ℕ → List Entry → List ℕ → List ℕ → ℕ → List ℕ
+clockStarts n es started starts time = tabulate (λ c. cond (isMark (getD started c 0)) (getD starts c 0) (cond (any (startsClock c) es) time 0)) 0 n
+
+-- The situation in which a record stands, at a time and with an estimate
+abbrev pub situation : List ℕ → List ℕ → List ℕ → ℕ → Situation
+situation t r est time = record { estimate = est; started = startedIn t r; starts = startsIn t r; time = time }
+
+-- "estimate not V bytes, or one above 250" (refusal 13)
+unfoldable pub estimateAllowed : List ℕ → List ℕ → Bool
+estimateAllowed t est = eqb (length est) (variables t) && all (λ x. leb x maxValue) est
+
+-- Beginning a run: "phase 0, last time 0, no clock started, the estimate stored, the root initialised"
+unfoldable pub freshRecord : List ℕ → List ℕ → List ℕ
+freshRecord t est = recordBytes waiting 0 est (replicate (clocks t) 0) (replicate (clocks t) 0) (fresh t 0)
+
+-- "Beginning 9, 13, 8"
+unfoldable pub beginRefusal : List ℕ → List ℕ → ℕ → ℕ
+beginRefusal t est room = firstFailing ((9, isTable t) ∷ (13, estimateAllowed t est) ∷ (8, leb recordLength room) ∷ [])
+
+unfoldable pub begunInto : List ℕ → List ℕ → List ℕ → List ℕ
+begunInto t est r = cond (eqb (beginRefusal t est (length r)) 0) (sets r 0 (freshRecord t est)) r
+
+-- "Offer 9, 10, 14, 11, 12, 8"
+unfoldable pub offerRefusal : List ℕ → List ℕ → ℕ → ℕ → ℕ
+offerRefusal t r time room =
+    firstFailing
+    ((9, isTable t)
+    ∷ (10, recordAllowed t r)
+    ∷ (14, not (eqb (phaseOf r) finished))
+    ∷ (11, not (eqb (phaseOf r) offered))
+    ∷ (12, leb (lastTime r) time)
+    ∷ (8, leb (variables t) room)
+    ∷ [])
+
+-- the marks after an offer, what it offers, and what stands in record and goal buffer afterwards
+abbrev pub checkedMarks : List ℕ → List ℕ → ℕ → List ℕ
+checkedMarks t r time = checkedFrom t (situation t r (estimateIn t r) time) 0 (marksIn t r) 0
+
+abbrev pub offeredGoals : List ℕ → List ℕ → ℕ → List ℕ
+offeredGoals t r time = goalBytes (variables t) (leavesFrom t 0 (checkedMarks t r time))
+
+abbrev pub offeredRecord : List ℕ → List ℕ → ℕ → List ℕ
+offeredRecord t r time = sets (sets (set r 0 offered) timePlace (littleEndian timeWidth time)) marksPlace (checkedMarks t r time)
+
+unfoldable pub offeredInto : List ℕ → List ℕ → ℕ → ℕ → List ℕ
+offeredInto t r time room = cond (eqb (offerRefusal t r time room) 0) (offeredRecord t r time) r
+
+unfoldable pub goalsInto : List ℕ → List ℕ → ℕ → List ℕ → List ℕ
+goalsInto t r time goals = cond (eqb (offerRefusal t r time (length goals)) 0) (sets goals 0 (offeredGoals t r time)) goals
+
+-- the marks after a settling
+abbrev pub settledMarks : List ℕ → List ℕ → List ℕ → List ℕ
+settledMarks t r est = settledFrom t (situation t r est (lastTime r)) 0 (marksIn t r)
+
+-- "If the root ends, phase is 2": it has no next, so it has ended where it is not marked any more
+abbrev pub rootEnded : List ℕ → Bool
+rootEnded m = not (isMark (getD m 0 0))
+
+-- "root not ended, yet no leaf or deciding CHOICE marked" (refusal 15)
+unfoldable pub worksFrom : List ℕ → ℕ → List ℕ → Bool
+worksFrom t p [] = false
+worksFrom t p (m ∷ ms) = (isMark m && (isLeaf (entryAt Table t p) || (isKind CHOICE (entryAt Table t p) && not (any isMark (take (insideOf t p) ms))))) || worksFrom t (suc p) ms
+
+-- "Settling 9, 10, 14, 11, 13, 15"
+unfoldable pub settleRefusal : List ℕ → List ℕ → List ℕ → ℕ
+settleRefusal t r est =
+    firstFailing
+    ((9, isTable t)
+    ∷ (10, recordAllowed t r)
+    ∷ (14, not (eqb (phaseOf r) finished))
+    ∷ (11, not (eqb (phaseOf r) waiting))
+    ∷ (13, estimateAllowed t est)
+    ∷ (15, rootEnded (settledMarks t r est) || worksFrom t 0 (settledMarks t r est))
+    ∷ [])
+
+abbrev pub startingLeaves : List ℕ → List ℕ → List Entry
+startingLeaves t r = leavesFrom t 0 (marksIn t r)
+
+abbrev pub settledRecord : List ℕ → List ℕ → List ℕ → List ℕ
+settledRecord t r est =
+    sets
+    (sets
+    (sets
+    (sets (set r 0 (cond (rootEnded (settledMarks t r est)) finished waiting)) estimatePlace est)
+    startedPlace
+    (clockFlags (clocks t) (startingLeaves t r) (startedIn t r)))
+    startsPlace
+    (flat (littleEndian timeWidth) (clockStarts (clocks t) (startingLeaves t r) (startedIn t r) (startsIn t r) (lastTime r))))
+    marksPlace
+    (settledMarks t r est)
+
+unfoldable pub settledInto : List ℕ → List ℕ → List ℕ → List ℕ
+settledInto t r est = cond (eqb (settleRefusal t r est) 0) (settledRecord t r est) r
