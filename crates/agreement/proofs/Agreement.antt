@@ -25,7 +25,7 @@ use Rattle.meaning.proofs.Files.{accepted-file}
 use Rattle.meaning.proofs.Tables.{table-holds, table-accepted, tree-table, compiled-is}
 use Rattle.meaning.proofs.Records.{Fits, judged, phase-read, time-read, estimate-read, started-read, starts-read, begin-tests, begun-fits, begun-bytes, clocks-begun, estimate-fits, checked-marks, settled-marks, offered-bytes, offered-fits, settled-bytes, settled-fits, record-allowed, flags-small, clocks-settled, clock-later}
 use Rattle.agreement.specs.Unfolding.{Rest, afresh, check, working, settle}
-use Rattle.agreement.specs.Runs.{Call, offer, settling, Reply, refused, goals, running, done, reply, tableReply, tableNext, State, begin, Fed, fed, offering, settled, refusalOf, workingOf, phaseFor, treeNext, treeReply, acceptedReply, settledState, NameAlike, possible, Alike, counted, tableFinishing, treeFinishing, Timed, estimateFits, RunsAlike}
+use Rattle.agreement.specs.Runs.{Call, offer, settling, Reply, refused, goals, running, done, reply, tableReply, tableNext, State, begin, Fed, fed, offering, settled, refusalOf, workingOf, phaseFor, treeNext, treeReply, acceptedReply, settledState, NameAlike, possible, Alike, counted, tableFinishing, treeFinishing, Timed, estimateFits, Demand3}
 use Rattle.agreement.proofs.Contested.{length-goals, names-contested}
 use Rattle.agreement.proofs.AtWork.{all-working, small-values}
 use Rattle.agreement.proofs.Shapes.{length-marks}
@@ -414,8 +414,7 @@ module _ (v k : ℕ) (p : Part) (w : Within v k p) where
   unfolding beginRefusal estimateAllowed
   begin-refusal est room = rw (table, variables-are)
 
--- Demand 3, for every program file that reading accepts, every first estimate, every record buffer and every list of calls
-pub demand-3 : (f est r : List ℕ) (cs : List Call) → programRefusal File f ≡ 0 → Timed cs → RunsAlike f est r cs
+pub demand-3 : Demand3
 demand-3 f est r cs a h =
     let x = accepted-file f a in
     let v = variables f in

@@ -1,6 +1,7 @@
 pub mod Stations
 pub mod Contested
 pub mod AtWork
+pub mod Marks
 pub mod Shapes
 pub mod Lies
 pub mod Over

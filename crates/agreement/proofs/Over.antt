@@ -4,7 +4,7 @@ use native.Mathlib.Nat.{add-zero, add-suc, suc-add, add-assoc}
 use mathlib.Core.Path.{_≡_, sym, ap, _∙_}
 use mathlib.Core.List.{List, [], _∷_, _++_, append-assoc, append-nil}
 use Rattle.meaning.specs.Tree.{Part, size}
-use Rattle.agreement.specs.Marks.{blank}
+use Rattle.agreement.proofs.Marks.{blank}
 use Rattle.agreement.proofs.Shapes.{inner, size-inner}
 
 -- over the marks xs of a parts from number n on a pass leaves ys, whatever follows

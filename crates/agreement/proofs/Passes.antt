@@ -17,7 +17,7 @@ use Rattle.meaning.specs.Conditions.{Situation, violated}
 use Rattle.meaning.specs.Cycle.{beginsIn, begins, freshFrom, fresh, isKind, isLeaf, checkedFrom, leavesFrom}
 use Rattle.meaning.proofs.Trees.{entryOf}
 use Rattle.agreement.specs.Unfolding.{Rest, Current, Running, this, that, both, broken, holding, undecided, first, second, afresh, afreshFirst, afreshAll, check, checkCurrent, checkRunning, working, workingCurrent, workingRunning}
-use Rattle.agreement.specs.Marks.{sizes, blank, marksOf, marksCurrent, marksRunning}
+use Rattle.agreement.proofs.Marks.{sizes, blank, marksOf, marksCurrent, marksRunning}
 use Rattle.agreement.proofs.Shapes.{inner, size-inner, marks-front, length-marks, length-inner, blank-both}
 use Rattle.agreement.proofs.Lies.{Lies, LieIn, own-row, own-inside, inside, first-lies, others-lie}
 use Rattle.agreement.proofs.Over.{Over, over-none, over-all, over-both, over-part, over-blank}

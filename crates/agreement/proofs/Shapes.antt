@@ -13,7 +13,7 @@ use Rattle.meaning.specs.Tree.{Part, Parts, goal, start, wait, seq, par, mainta
 use Rattle.meaning.specs.Record.{isMark}
 use Rattle.meaning.proofs.Trees.{size-law}
 use Rattle.agreement.specs.Unfolding.{Rest, Current, Running, this, that, both, broken, holding, undecided, first, second}
-use Rattle.agreement.specs.Marks.{sizes, blank, marksOf, marksCurrent, marksRunning}
+use Rattle.agreement.proofs.Marks.{sizes, blank, marksOf, marksCurrent, marksRunning}
 
 -- how many parts stand inside a part
 abbrev pub inner : Part → ℕ

@@ -1,4 +1,3 @@
 pub mod Unfolding
-pub mod Marks
 pub mod Runs
 pub mod Stations
