@@ -7,10 +7,12 @@ use lib.Dec.{eqb}
 use lib.ListN.{replicate}
 use Rattle.base.specs.Lists.{all}
 use Rattle.meaning.specs.declared.Form.the-variants.{File}
+use Rattle.meaning.specs.declared.Outcome.{Outcome}
+use Rattle.meaning.specs.declared.Outcome.the-variants.{Satisfied, Violated, Open}
 use Rattle.meaning.specs.Kinds.{kindOf, numberOf, known, arity, testOf, testAllowed, conditionAllowed, goalAllowed, startAllowed, countAllowed, emptyAllowed, operandAllowed}
 use Rattle.meaning.specs.Tree.{fold, depth, size}
 use Rattle.meaning.specs.Program.{sizesAllowed, entriesFrom, entries, preorder, knownEntry, allowedEntry, arityOf, make, place, trees, treeOf, programRefusal}
-use Rattle.meaning.specs.Conditions.{Situation, Outcome, SATISFIED, VIOLATED, OPEN, outcome}
+use Rattle.meaning.specs.Conditions.{Situation, outcome}
 use Rattle.meaning.specs.Table.{nextOf, block, tableOf, compiled, readRefusal}
 
 -- n REPEATs above a GOAL 0=1, one variable and no clock
@@ -60,6 +62,6 @@ abbrev test : ℕ → ℕ → ℕ → Outcome
 test b0 b1 b2 = outcome tried (record { b0 = b0; b1 = b1; b2 = b2; b3 = 0 })
 
 conditions : test 1 0 1 ∷ test 1 0 2 ∷ test 2 0 1 ∷ test 2 0 2 ∷ test 3 0 5 ∷ test 3 0 6 ∷ test 4 0 5 ∷ test 4 0 6 ∷ test 3 1 0 ∷ test 4 1 5 ∷ []
-    ≡ SATISFIED ∷ VIOLATED ∷ VIOLATED ∷ SATISFIED ∷ SATISFIED ∷ VIOLATED ∷ VIOLATED ∷ SATISFIED ∷ OPEN ∷ OPEN ∷ []
+    ≡ Satisfied ∷ Violated ∷ Violated ∷ Satisfied ∷ Satisfied ∷ Violated ∷ Violated ∷ Satisfied ∷ Open ∷ Open ∷ []
 unfolding outcome testOf
 conditions = refl

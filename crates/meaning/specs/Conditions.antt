@@ -5,11 +5,9 @@ use mathlib.Core.List.{List}
 use lib.Dec.{eqb, leb, ltb}
 use lib.ListN.{getD}
 use Rattle.meaning.specs.declared.Operand.{Operand}
+use Rattle.meaning.specs.declared.Outcome.{Outcome}
+use Rattle.meaning.specs.declared.Outcome.the-variants.{Satisfied, Violated, Open}
 use Rattle.meaning.specs.Kinds.{Test, UNTESTED, EQUALS, DIFFERS, AT-LEAST, BELOW, testOf, value}
-
--- A condition is satisfied, violated (document 01's term: its opposite is satisfied), or neither
-pub data Outcome : Type 0 where
-  SATISFIED VIOLATED OPEN : Outcome
 
 -- What conditions are judged by: the estimate, each clock's started flag and start, and the cycle's time
 pub record Situation : Type 0 where
@@ -29,15 +27,15 @@ abbrev pub reading : Situation → ℕ → ℕ
 reading s c = s .time - getD (s .starts) c 0
 
 abbrev pub decided : Bool → Outcome
-decided true = SATISFIED
-decided false = VIOLATED
+decided true = Satisfied
+decided false = Violated
 
 -- "A condition over an unstarted clock is not satisfied", and not violated either
 abbrev pub onClock : Situation → ℕ → Bool → Outcome
-onClock s c b = cond (isStarted s c) (decided b) OPEN
+onClock s c b = cond (isStarted s c) (decided b) Open
 
 abbrev pub tested : Situation → Test → ℕ → ℕ → Outcome
-tested s UNTESTED i n = OPEN
+tested s UNTESTED i n = Open
 tested s EQUALS i n = decided (eqb (estimateOf s i) n)
 tested s DIFFERS i n = decided (not (eqb (estimateOf s i) n))
 tested s AT-LEAST i n = onClock s i (leb n (reading s i))
@@ -47,14 +45,14 @@ unfoldable pub outcome : Situation → Operand → Outcome
 outcome s o = tested s (testOf (o .b0)) (o .b1) (value o)
 
 abbrev pub isSatisfied : Outcome → Bool
-isSatisfied SATISFIED = true
-isSatisfied VIOLATED = false
-isSatisfied OPEN = false
+isSatisfied Satisfied = true
+isSatisfied Violated = false
+isSatisfied Open = false
 
 abbrev pub isViolated : Outcome → Bool
-isViolated SATISFIED = false
-isViolated VIOLATED = true
-isViolated OPEN = false
+isViolated Satisfied = false
+isViolated Violated = true
+isViolated Open = false
 
 -- "A marked GOAL ends when its variable has its value"
 unfoldable pub reached : Situation → Operand → Bool

@@ -28,6 +28,14 @@ pub struct Entry {
     pub operand: Operand,
 }
 
+// What a condition comes to: satisfied, violated (document 01's term: its opposite is satisfied), or
+// neither.
+pub enum Outcome {
+    Satisfied,
+    Violated,
+    Open,
+}
+
 // Why a call is refused.
 pub enum Refusal {
     FileTooShort,

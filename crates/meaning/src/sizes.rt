@@ -30,3 +30,25 @@ pub const MAX_LINKS: usize = 600;
 pub const MAX_FILE: usize = 1003;
 
 pub const MAX_TABLE: usize = 1603;
+
+// Where the fields of a run record begin, how long the record is, and how many bytes a time takes.
+pub const TIME: usize = 4;
+
+pub const TIME_PLACE: usize = 1;
+
+pub const ESTIMATE_PLACE: usize = 5;
+
+pub const STARTED_PLACE: usize = 37;
+
+pub const STARTS_PLACE: usize = 53;
+
+pub const MARKS_PLACE: usize = 117;
+
+pub const RECORD: usize = 317;
+
+// The phases of a run.
+pub const WAITING: u8 = 0;
+
+pub const OFFERED: u8 = 1;
+
+pub const FINISHED: u8 = 2;

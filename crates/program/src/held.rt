@@ -17,6 +17,7 @@ ghost use Prim.Native.Nat.{_+_, _<_};
 ghost use lib.ListN.{getD};
 ghost use Rattle.meaning.specs.Sizes.{numberAt, lengthOf, kindPlace, operandPlace};
 ghost use Rattle.meaning.specs.Program.{parts, variables, clocks, sizesAllowed, operandAt, entryAt};
+ghost use Rattle.meaning.specs.Table.{endAt, parentAt, nextAt};
 
 // The number that stands at place i.
 pub fn number_at(s: &[u8], i: usize) -> Number
@@ -104,4 +105,24 @@ pub fn entry_at(s: &[u8], form: Form, p: Number) -> Entry
     let kind = at(s, kind_place(form, n, p));
     let operand = operand_at(s, operand_place(form, n, p, 0));
     Entry { kind, operand }
+}
+
+// One past the last part inside part p of a table, the part around p, and the part that begins when
+// p ends.
+pub fn end_at(t: &[u8], p: Number) -> Number
+    ensures { λ r. ⌜ r ≡ endAt (now (t .entry)) p ⌝ }
+{
+    number_at(t, HEADER + ROW * wide(p) + 1)
+}
+
+pub fn parent_at(t: &[u8], p: Number) -> Number
+    ensures { λ r. ⌜ r ≡ parentAt (now (t .entry)) p ⌝ }
+{
+    number_at(t, HEADER + ROW * wide(p) + 2)
+}
+
+pub fn next_at(t: &[u8], p: Number) -> Number
+    ensures { λ r. ⌜ r ≡ nextAt (now (t .entry)) p ⌝ }
+{
+    number_at(t, HEADER + ROW * wide(p) + 3)
 }

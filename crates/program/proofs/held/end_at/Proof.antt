@@ -1,0 +1,27 @@
+-- `end_at` meets its contract: a row's second number.
+use borrow.Author.Needs.{needs}
+use Rattle.program.proofs.held.end_at.Statement.{statement}
+use Rattle.program.proofs.held.end_at.Tie as tie
+
+wide-requires : tie.Need-wide-requires
+wide-requires c κs = search needs
+
+mul-number-at : tie.Need-mul-number-at
+mul-number-at c = search needs
+
+add-number-at : tie.Need-add-number-at
+add-number-at c = search needs
+
+add-number-at-2 : tie.Need-add-number-at-2
+add-number-at-2 c = search needs
+
+number-at-requires : tie.Need-number-at-requires
+number-at-requires c κs = search needs
+
+returns : tie.Need-returns
+returns c = cc
+
+pub end-at-spec : {M : Type 1} → statement M
+end-at-spec =
+    tie.close
+    (tie.spec wide-requires mul-number-at add-number-at add-number-at-2 number-at-requires returns)

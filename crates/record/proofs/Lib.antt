@@ -1,0 +1,4 @@
+pub mod Times
+pub mod Judging
+pub mod Places
+pub mod Markings

@@ -1,0 +1,68 @@
+-- `outcome` meets its contract: each test has its arm, and no other byte is a test.
+use borrow.Author.Needs.{needs}
+use Rattle.meaning.specs.Kinds.{testOf}
+use Rattle.meaning.specs.Conditions.{outcome}
+use Rattle.program.proofs.KindBytes.{no-test}
+use Rattle.record.proofs.Judging.{judged-at-least, judged-below}
+use Rattle.record.proofs.conditions.outcome.Statement.{statement}
+use Rattle.record.proofs.conditions.outcome.Tie as tie
+
+reached-requires : tie.Need-reached-requires
+reached-requires c κs = search needs
+
+decided-requires : tie.Need-decided-requires
+decided-requires c κs = search needs
+
+reached-requires-2 : tie.Need-reached-requires-2
+reached-requires-2 c κs = search needs
+
+decided-requires-2 : tie.Need-decided-requires-2
+decided-requires-2 c κs = search needs
+
+at-least-requires : tie.Need-at-least-requires
+at-least-requires c κs = search needs
+
+on-clock-requires : tie.Need-on-clock-requires
+on-clock-requires c κs = search needs
+
+below-requires : tie.Need-below-requires
+below-requires c κs = search needs
+
+on-clock-requires-2 : tie.Need-on-clock-requires-2
+on-clock-requires-2 c κs = search needs
+
+returns : tie.Need-returns
+unfolding outcome testOf
+returns c = rw (c .before .before .match .keys1) (cc)
+
+returns-2 : tie.Need-returns-2
+unfolding outcome testOf
+returns-2 c = rw (c .before .before .match .keys2) (cc)
+
+returns-3 : tie.Need-returns-3
+returns-3 c = search judged-at-least
+
+returns-4 : tie.Need-returns-4
+returns-4 c = search judged-below
+
+returns-5 : tie.Need-returns-5
+unfolding outcome
+returns-5 c = rw (no-test _ (c .match .rest))
+
+pub outcome-spec : {M : Type 1} → statement M
+outcome-spec =
+    tie.close
+    (tie.spec
+    reached-requires
+    decided-requires
+    reached-requires-2
+    decided-requires-2
+    at-least-requires
+    on-clock-requires
+    below-requires
+    on-clock-requires-2
+    returns
+    returns-2
+    returns-3
+    returns-4
+    returns-5)
