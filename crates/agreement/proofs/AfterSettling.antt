@@ -19,17 +19,19 @@ use Rattle.meaning.specs.Program.{parts}
 use Rattle.meaning.specs.Table.{endAt, parentAt, nextAt, insideOf, isTable}
 use Rattle.meaning.specs.Conditions.{Situation}
 use Rattle.meaning.specs.Record.{marksPlace, recordLength, phaseOf, lastTime, marksIn, isMark, restZero, valuesAllowed, clocksAllowed, markedChildren, childrenAllowed, partAllowed, partsAllowed, rootAllowed, recordAllowed}
-use Rattle.meaning.specs.Cycle.{Fate, STAYS, ENDS, FIRST, SECOND, fresh, begun, settledFrom, situation, settledMarks}
+use Rattle.meaning.specs.declared.Fate.{Fate}
+use Rattle.meaning.specs.declared.Fate.the-variants.{Stays, Ends, First, Second}
+use Rattle.meaning.specs.Cycle.{fresh, begun, settledFrom, situation, settledMarks}
 use Rattle.meaning.proofs.Tables.{Later, Inside, inside}
 use Rattle.meaning.proofs.Records.{length-fresh, length-settled}
 use Rattle.agreement.proofs.Lies.{Lies, own-kind, own-inside}
 use Rattle.agreement.proofs.Nesting.{lower, at, root-next, inside-root, nested}
 use Rattle.agreement.proofs.Followers.{Followed, Branches, next-nested, choice-branches}
-use Rattle.agreement.proofs.Settlings.{Marked, later, insideBefore, insideAfter, fateAt, Ends, TakesFirst, TakesSecond, marked-length, decides, decides-kind, composite-ends, deciding-stays, unmarked-unjudged, end-no-next, end-next, decides-first, decides-second, stays, kept-own}
+use Rattle.agreement.proofs.Settlings.{Marked, later, insideBefore, insideAfter, fateAt, EndsAt, TakesFirst, TakesSecond, marked-length, decides, decides-kind, composite-ends, deciding-stays, unmarked-unjudged, end-no-next, end-next, decides-first, decides-second, stays, kept-own}
 
 -- a part that was marked and does not end
 abbrev pub Kept : List ℕ → Situation → List ℕ → ℕ → Type 0
-Kept t s ms n = Marked ms n × (fateAt t s ms n ≡ ENDS → ⊥)
+Kept t s ms n = Marked ms n × (fateAt t s ms n ≡ Ends → ⊥)
 
 -- part q, a deciding CHOICE, takes its child x
 abbrev pub Takes : List ℕ → Situation → List ℕ → ℕ → ℕ → Type 0
@@ -37,7 +39,7 @@ Takes t s ms q x = (TakesFirst t s ms q × (suc q ≡ x)) ⊎ (TakesSecond t s m
 
 -- part q initialises part x: its next where it ends, or the child that it takes
 abbrev pub Initialises : List ℕ → Situation → List ℕ → ℕ → ℕ → Type 0
-Initialises t s ms q x = (Ends t s ms q × (nextAt t q ≡ x) × (x ≡ noPart → ⊥)) ⊎ Takes t s ms q x
+Initialises t s ms q x = (EndsAt t s ms q × (nextAt t q ≡ x) × (x ≡ noPart → ⊥)) ⊎ Takes t s ms q x
 
 -- part n is marked where the part `at`, itself or around it, is initialised by the part `by`
 pub record Initialised (t : List ℕ) (s : Situation) (ms : List ℕ) (n : ℕ) : Type 0 where
@@ -207,7 +209,7 @@ module _ (t : List ℕ) (h : isTable t ≡ true) (s : Situation) (ms : List ℕ)
       omega (arith, f .next-within, f .parent-end)) .2
 
   -- where a part ends nothing is marked inside it any more
-  ends-empty : (p : Part) {q u x : ℕ} → Lies t p q u x → Ends t s ms q → insideAfter t s ms q ≡ false
+  ends-empty : (p : Part) {q u x : ℕ} → Lies t p q u x → EndsAt t s ms q → insideAfter t s ms q ≡ false
   ends-empty (goal o) l e = rw (own-inside l)
   ends-empty (start o) l e = rw (own-inside l)
   ends-empty (wait o) l e = rw (own-inside l)
@@ -237,18 +239,18 @@ module _ (t : List ℕ) (h : isTable t ≡ true) (s : Situation) (ms : List ℕ)
   turn : (p : ℕ) → p < length ms → Turn p
   turn p l = judged (isMark (getD ms p 0)) refl
     where
-      ended : Ends t s ms p → (b : Bool) → eqb (nextAt t p) noPart ≡ b → Turn p
+      ended : EndsAt t s ms p → (b : Bool) → eqb (nextAt t p) noPart ≡ b → Turn p
       ended e true n = inr (0, λ z. absurd (false≢true z), end-no-next t s ms p e (eqb-true (nextAt t p) noPart n))
       ended e false n = inl (nextAt t p, inl (e, refl, eqb-false (nextAt t p) noPart n))
 
       met : Marked ms p → (f : Fate) → fateAt t s ms p ≡ f → Turn p
-      met m STAYS e = inr (1, λ z. (m, λ d. stays-on (sym e ∙ d)), stays t s ms p (m, e))
+      met m Stays e = inr (1, λ z. (m, λ d. stays-on (sym e ∙ d)), stays t s ms p (m, e))
         where
-          stays-on : STAYS ≡ ENDS → ⊥
+          stays-on : Stays ≡ Ends → ⊥
           stays-on d = false≢true cc
-      met m ENDS e = ended (m, e) (eqb (nextAt t p) noPart) refl
-      met m FIRST e = inl (suc p, inr (inl ((m, e), refl)))
-      met m SECOND e = inl (endAt t (suc p), inr (inr ((m, e), refl)))
+      met m Ends e = ended (m, e) (eqb (nextAt t p) noPart) refl
+      met m First e = inl (suc p, inr (inl ((m, e), refl)))
+      met m Second e = inl (endAt t (suc p), inr (inr ((m, e), refl)))
 
       judged : (b : Bool) → isMark (getD ms p 0) ≡ b → Turn p
       judged true m = met m (fateAt t s ms p) refl

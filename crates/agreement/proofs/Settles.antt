@@ -20,7 +20,8 @@ use Rattle.meaning.specs.Tree.{Part, Parts, goal, start, wait, seq, par, mainta
 use Rattle.meaning.specs.Table.{nextOf, block, kindAt, operandOf}
 use Rattle.meaning.specs.Conditions.{Situation, reached, satisfied}
 use Rattle.meaning.specs.Record.{isMark}
-use Rattle.meaning.specs.Cycle.{STAYS, ENDS, FIRST, SECOND, endsIf, fate, begun, applied, settledFrom, rootEnded}
+use Rattle.meaning.specs.declared.Fate.the-variants.{Stays, Ends, First, Second}
+use Rattle.meaning.specs.Cycle.{endsIf, fate, begun, applied, settledFrom, rootEnded}
 use Rattle.agreement.specs.Unfolding.{Rest, Current, Running, this, that, both, broken, holding, undecided, first, second, afresh, afreshFirst, onward, join, settle, settleCurrent, settleRunning}
 use Rattle.agreement.proofs.Marks.{sizes, blank, marksOf, marksCurrent, marksRunning}
 use Rattle.agreement.proofs.Shapes.{inner, size-inner, marks-front, length-marks, blank-both, any-blank, any-marks, any-first, any-later, any-current, any-running}
@@ -135,11 +136,11 @@ module _ (t : List ℕ) (s : Situation) where
         settle-step (xs ++ ms) ∙ rw (h .over ms, e, take-at xs ms (inner p) a, take-at ys (settledFrom t s (n + size p) ms) (inner p) b)
 
     -- a part that ends, and one that stays
-    ends : (rest : List ℕ) → applied t n ENDS (blank (inner p) ++ rest) ≡ left t p n x none rest
+    ends : (rest : List ℕ) → applied t n Ends (blank (inner p) ++ rest) ≡ left t p n x none rest
     unfolding applied
     ends rest = rw (size-inner p, own-row l .next-is)
 
-    stays : (r : Rest p) (ys rest : List ℕ) → marksOf p r ≡ 1 ∷ ys → applied t n STAYS (ys ++ rest) ≡ left t p n x (some r) rest
+    stays : (r : Rest p) (ys rest : List ℕ) → marksOf p r ≡ 1 ∷ ys → applied t n Stays (ys ++ rest) ≡ left t p n x (some r) rest
     unfolding applied
     stays r ys rest e = rw e
 
@@ -204,7 +205,7 @@ module _ (t : List ℕ) (s : Situation) where
       record { over = λ ms. rw (append-assoc (marksOf p r), h .settles (blank (sizes ps) ++ ms), has-next ps n (n + size p), settle-blank (sizes ps) .over ms, ← (add-assoc n (size p) (sizes ps))) (left-next p ps n (others-lie l) (settle s p r) (settledFrom t s (n + size p + sizes ps) ms)) }
 
   -- a CHOICE that was deciding
-  decided-left : {i : Operand} {p q : Part} {n m x : ℕ} → Lies t (choice i p q) n m x → (b : Bool) (rest : List ℕ) → applied t n (cond b FIRST SECOND) (blank (size p) ++ blank (size q) ++ rest) ≡ left t (choice i p q) n x (some (cond b (first (afresh p)) (second (afresh q)))) rest
+  decided-left : {i : Operand} {p q : Part} {n m x : ℕ} → Lies t (choice i p q) n m x → (b : Bool) (rest : List ℕ) → applied t n (cond b First Second) (blank (size p) ++ blank (size q) ++ rest) ≡ left t (choice i p q) n x (some (cond b (first (afresh p)) (second (afresh q)))) rest
   unfolding applied marksOf
   decided-left {i} {p} {q} {n} l true rest = rw (append-assoc (blank (size p)), append-assoc (marksOf p (afresh p))) (begun-lies (first-lies (inside l)) n (1 ∷ []) (blank (size q) ++ rest) (omega arith))
   decided-left {i} {p} {q} {n} l false rest =

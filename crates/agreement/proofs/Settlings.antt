@@ -17,7 +17,9 @@ use Rattle.meaning.specs.Program.{parts}
 use Rattle.meaning.specs.Table.{kindAt, operandOf, endAt, nextAt, insideOf, isTable}
 use Rattle.meaning.specs.Conditions.{Situation, reached, satisfied}
 use Rattle.meaning.specs.Record.{isMark}
-use Rattle.meaning.specs.Cycle.{Fate, STAYS, ENDS, FIRST, SECOND, endsIf, fate, fresh, applied, settledPart, settledFrom, rootEnded}
+use Rattle.meaning.specs.declared.Fate.{Fate}
+use Rattle.meaning.specs.declared.Fate.the-variants.{Stays, Ends, First, Second}
+use Rattle.meaning.specs.Cycle.{endsIf, fate, fresh, applied, settledPart, settledFrom, rootEnded}
 use Rattle.agreement.proofs.Nesting.{lower, root-there, root-next}
 use Rattle.agreement.proofs.Followers.{choice-branches}
 
@@ -48,14 +50,14 @@ abbrev pub Undeciding : List ℕ → List ℕ → ℕ → Type 0
 Undeciding t ms p = (kindAt t p ≡ SEQ) ⊎ (kindAt t p ≡ PAR) ⊎ (kindAt t p ≡ MAINTAIN) ⊎ (kindAt t p ≡ REPEAT) ⊎ ((kindAt t p ≡ CHOICE) × (insideBefore t ms p ≡ true))
 
 -- part p ends, and as a deciding CHOICE has its first child initialised, or its second
-abbrev pub Ends : List ℕ → Situation → List ℕ → ℕ → Type 0
-Ends = Meets ENDS
+abbrev pub EndsAt : List ℕ → Situation → List ℕ → ℕ → Type 0
+EndsAt = Meets Ends
 
 abbrev pub TakesFirst : List ℕ → Situation → List ℕ → ℕ → Type 0
-TakesFirst = Meets FIRST
+TakesFirst = Meets First
 
 abbrev pub TakesSecond : List ℕ → Situation → List ℕ → ℕ → Type 0
-TakesSecond = Meets SECOND
+TakesSecond = Meets Second
 
 -- a part that is marked has a mark
 pub marked-length : (ms : List ℕ) (p : ℕ) → Marked ms p → p < length ms
@@ -66,26 +68,26 @@ marked-length ms p m = go (lower p (length ms))
     go (inr l) = absurd (false≢true (rw (List·getD-eq-default ms 0 l) at m))
 
 -- to end, as a test says
-ends-if : (b : Bool) → (endsIf b ≡ ENDS) ↔ (b ≡ true)
+ends-if : (b : Bool) → (endsIf b ≡ Ends) ↔ (b ≡ true)
 ends-if true = (λ e. refl, λ e. refl)
 ends-if false = (λ e. cc, λ e. cc)
 
-ends-not : (b : Bool) → (endsIf (not b) ≡ ENDS) ↔ (b ≡ false)
+ends-not : (b : Bool) → (endsIf (not b) ≡ Ends) ↔ (b ≡ false)
 ends-not true = (λ e. cc, λ e. cc)
 ends-not false = (λ e. refl, λ e. refl)
 
-ends-or : (f : Fate) → (f ≡ ENDS) ⊎ (f ≡ ENDS → ⊥)
-ends-or STAYS = inr (λ e. false≢true cc)
-ends-or ENDS = inl refl
-ends-or FIRST = inr (λ e. false≢true cc)
-ends-or SECOND = inr (λ e. false≢true cc)
+ends-or : (f : Fate) → (f ≡ Ends) ⊎ (f ≡ Ends → ⊥)
+ends-or Stays = inr (λ e. false≢true cc)
+ends-or Ends = inl refl
+ends-or First = inr (λ e. false≢true cc)
+ends-or Second = inr (λ e. false≢true cc)
 
 -- to decide is to take a child
 abbrev pub decides : Fate → Bool
-decides STAYS = false
-decides ENDS = false
-decides FIRST = true
-decides SECOND = true
+decides Stays = false
+decides Ends = false
+decides First = true
+decides Second = true
 
 undecided : (b : Bool) → decides (endsIf b) ≡ true → ⊥
 undecided true e = false≢true e
@@ -112,34 +114,34 @@ module _ (t : List ℕ) (s : Situation) (ms : List ℕ) (p : ℕ) where
 
   module _ (m : Marked ms p) where
     -- "A marked GOAL ends when its variable has its value"
-    pub goal-ends : kindAt t p ≡ GOAL → (Ends t s ms p ↔ (reached s (operandOf t p) ≡ true))
+    pub goal-ends : kindAt t p ≡ GOAL → (EndsAt t s ms p ↔ (reached s (operandOf t p) ≡ true))
     unfolding fate
     goal-ends k = meets m (rw k (ends-if (reached s (operandOf t p))))
 
     -- "a WAIT when satisfied"
-    pub wait-ends : kindAt t p ≡ WAIT → (Ends t s ms p ↔ (satisfied s (operandOf t p) ≡ true))
+    pub wait-ends : kindAt t p ≡ WAIT → (EndsAt t s ms p ↔ (satisfied s (operandOf t p) ≡ true))
     unfolding fate
     wait-ends k = meets m (rw k (ends-if (satisfied s (operandOf t p))))
 
     -- "a START always"
-    pub start-ends : kindAt t p ≡ START → Ends t s ms p
+    pub start-ends : kindAt t p ≡ START → EndsAt t s ms p
     unfolding fate
     start-ends k = (m, rw k)
 
     -- "one deciding before it has its first child initialised if satisfied, else its second", and it does not end
-    pub deciding-decides : kindAt t p ≡ CHOICE → insideBefore t ms p ≡ false → Meets (cond (satisfied s (operandOf t p)) FIRST SECOND) t s ms p
+    pub deciding-decides : kindAt t p ≡ CHOICE → insideBefore t ms p ≡ false → Meets (cond (satisfied s (operandOf t p)) First Second) t s ms p
     unfolding fate
     deciding-decides k b = (m, rw (k, b))
 
-    pub deciding-stays : kindAt t p ≡ CHOICE → insideBefore t ms p ≡ false → Ends t s ms p → ⊥
+    pub deciding-stays : kindAt t p ≡ CHOICE → insideBefore t ms p ≡ false → EndsAt t s ms p → ⊥
     deciding-stays k b e = neither (satisfied s (operandOf t p)) (sym (deciding-decides k b .1) ∙ e .1)
       where
-        neither : (c : Bool) → cond c FIRST SECOND ≡ ENDS → ⊥
+        neither : (c : Bool) → cond c First Second ≡ Ends → ⊥
         neither true d = false≢true cc
         neither false d = false≢true cc
 
     -- "Any other marked composite with nothing marked inside after this ends too, a CHOICE whose branch has just ended included"
-    pub composite-ends : Undeciding t ms p → (Ends t s ms p ↔ (insideAfter t s ms p ≡ false))
+    pub composite-ends : Undeciding t ms p → (EndsAt t s ms p ↔ (insideAfter t s ms p ≡ false))
     unfolding fate
     composite-ends (inl k) = meets m (rw k (ends-not (insideAfter t s ms p)))
     composite-ends (inr (inl k)) = meets m (rw k (ends-not (insideAfter t s ms p)))
@@ -161,47 +163,47 @@ module _ (t : List ℕ) (s : Situation) (ms : List ℕ) (p : ℕ) where
   unmarked-unjudged l m = settled-at l ∙ rw m
 
   -- "A part that ends loses its mark and then initialises its next, if it has one"
-  pub end-no-next : Ends t s ms p → nextAt t p ≡ noPart → settledFrom t s p (drop p ms) ≡ 0 ∷ later t s ms p
+  pub end-no-next : EndsAt t s ms p → nextAt t p ≡ noPart → settledFrom t s p (drop p ms) ≡ 0 ∷ later t s ms p
   unfolding applied
-  end-no-next e n = settled-by ENDS e ∙ rw (eq-eqb (nextAt t p) noPart n)
+  end-no-next e n = settled-by Ends e ∙ rw (eq-eqb (nextAt t p) noPart n)
 
-  pub end-next : Ends t s ms p → (nextAt t p ≡ noPart → ⊥) → settledFrom t s p (drop p ms) ≡ sets (0 ∷ later t s ms p) (nextAt t p - p) (fresh t (nextAt t p))
+  pub end-next : EndsAt t s ms p → (nextAt t p ≡ noPart → ⊥) → settledFrom t s p (drop p ms) ≡ sets (0 ∷ later t s ms p) (nextAt t p - p) (fresh t (nextAt t p))
   unfolding applied
-  end-next e n = settled-by ENDS e ∙ rw (ne-eqb (nextAt t p) noPart n)
+  end-next e n = settled-by Ends e ∙ rw (ne-eqb (nextAt t p) noPart n)
 
   -- a deciding CHOICE "has its first child initialised if satisfied, else its second"
   pub decides-first : TakesFirst t s ms p → settledFrom t s p (drop p ms) ≡ sets (1 ∷ later t s ms p) 1 (fresh t (suc p))
   unfolding applied
   decides-first e =
       let one : suc p - p ≡ 1 = omega arith in
-      rw one at (settled-by FIRST e)
+      rw one at (settled-by First e)
 
   pub decides-second : TakesSecond t s ms p → settledFrom t s p (drop p ms) ≡ sets (1 ∷ later t s ms p) (endAt t (suc p) - p) (fresh t (endAt t (suc p)))
   unfolding applied
-  decides-second e = settled-by SECOND e
+  decides-second e = settled-by Second e
 
   -- a part that neither ends nor decides keeps its mark
-  pub stays : Meets STAYS t s ms p → settledFrom t s p (drop p ms) ≡ 1 ∷ later t s ms p
+  pub stays : Meets Stays t s ms p → settledFrom t s p (drop p ms) ≡ 1 ∷ later t s ms p
   unfolding applied
-  stays e = settled-by STAYS e
+  stays e = settled-by Stays e
 
 module _ (t : List ℕ) (h : isTable t ≡ true) (s : Situation) (ms : List ℕ) where
   -- a part that does not end keeps its mark
-  pub kept-own : (p : ℕ) → p < parts t → Marked ms p → (fateAt t s ms p ≡ ENDS → ⊥) → Marked (settledFrom t s p (drop p ms)) 0
+  pub kept-own : (p : ℕ) → p < parts t → Marked ms p → (fateAt t s ms p ≡ Ends → ⊥) → Marked (settledFrom t s p (drop p ms)) 0
   kept-own p l m d = go (fateAt t s ms p) refl
     where
       go : (f : Fate) → fateAt t s ms p ≡ f → Marked (settledFrom t s p (drop p ms)) 0
-      go STAYS e = rw (stays t s ms p (m, e))
-      go ENDS e = absurd (d e)
-      go FIRST e = rw (decides-first t s ms p (m, e), getD-sets-out (fresh t (suc p)) (1 ∷ later t s ms p) 1 0 (inl (omega arith)))
-      go SECOND e =
+      go Stays e = rw (stays t s ms p (m, e))
+      go Ends e = absurd (d e)
+      go First e = rw (decides-first t s ms p (m, e), getD-sets-out (fresh t (suc p)) (1 ∷ later t s ms p) 1 0 (inl (omega arith)))
+      go Second e =
           let b = choice-branches t h p l (decides-kind s (kindAt t p) (operandOf t p) (insideBefore t ms p) (insideAfter t s ms p) (ap decides e) .0) in
           rw (decides-second t s ms p (m, e), getD-sets-out (fresh t (endAt t (suc p))) (1 ∷ later t s ms p) (endAt t (suc p) - p) 0 (inl (omega (arith, b .first-end))))
 
   -- "If the root ends, phase is 2": the root is found ended exactly where it ends
-  pub root-ends : Marked ms 0 → ((rootEnded (settledFrom t s 0 ms) ≡ true) ↔ Ends t s ms 0)
+  pub root-ends : Marked ms 0 → ((rootEnded (settledFrom t s 0 ms) ≡ true) ↔ EndsAt t s ms 0)
   root-ends m = (λ r. go r (ends-or (fateAt t s ms 0)), λ e. rw (end-no-next t s ms 0 e (root-next t h)))
     where
-      go : rootEnded (settledFrom t s 0 ms) ≡ true → (fateAt t s ms 0 ≡ ENDS) ⊎ (fateAt t s ms 0 ≡ ENDS → ⊥) → Ends t s ms 0
+      go : rootEnded (settledFrom t s 0 ms) ≡ true → (fateAt t s ms 0 ≡ Ends) ⊎ (fateAt t s ms 0 ≡ Ends → ⊥) → EndsAt t s ms 0
       go r (inl e) = (m, e)
       go r (inr d) = absurd (false≢true (rw (kept-own 0 (root-there t h) m d) at r))

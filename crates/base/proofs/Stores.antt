@@ -6,7 +6,7 @@ use mathlib.Core.List.{List, [], _∷_, _++_, map, append-assoc}
 use native.Mathlib.Nat.{zero-add, add-zero, add-suc, suc-add}
 use native.Mathlib.Numerals.{add-one}
 use native.Mathlib.Omega.{arith}
-use lib.ListN.{length, getD, take, drop, set, length-append, length-set, List·getD-map}
+use lib.ListN.{length, getD, take, drop, set, replicate, length-append, length-set, List·getD-map}
 use lib.Seq.{sets, drop-cons, sets-eq, length-take-le, drop-at, getD-set-same, getD-set-other, drop-set-lt, set-comm, drop-drop, drop-append-seam, drop-append-add, getD-drop}
 use Rattle.base.specs.Lists.{sum, join, bytesAt}
 
@@ -147,3 +147,11 @@ copy-step s l m w k i j n r h b t inv =
 pub copy-end : (s l w : List ℕ) (k i j n : ℕ) → n ≤ j → sets l (i + j) (bytesAt s (k + j) (n - j)) ≡ w → l ≡ w
 copy-end s l w k i j n h inv =
     stores-end (λ x. getD s (k + x) 0 ∷ []) (λ x y. bytesAt s (k + x) y) (bytes-more s k) l w (i + j) j n refl h inv
+
+-- One byte stored again and again
+pub fill-step : (l m w : List ℕ) (i j n b : ℕ) → j < n → m ≡ set l (i + j) b → sets l (i + j) (replicate (n - j) b) ≡ w → sets m (i + (j + 1)) (replicate (n - (j + 1)) b) ≡ w
+fill-step l m w i j n b h t inv =
+    stores-step (λ x. b ∷ []) (λ x y. replicate y b) (λ x y. refl) l m w (i + j) (i + (j + 1)) j n h t (omega arith) inv
+
+pub fill-end : (l w : List ℕ) (i j n b : ℕ) → n ≤ j → sets l (i + j) (replicate (n - j) b) ≡ w → l ≡ w
+fill-end l w i j n b h inv = stores-end (λ x. b ∷ []) (λ x y. replicate y b) (λ x y. refl) l w (i + j) j n refl h inv

@@ -2,7 +2,7 @@
 // that no caller owes a bound.
 ghost use mathlib.Core.Path.{_≡_};
 ghost use Prim.Native.Nat.{_+_, _<_, _^_};
-ghost use lib.ListN.{getD, set};
+ghost use lib.ListN.{getD, set, replicate};
 ghost use lib.Seq.{sets};
 ghost use Rattle.base.specs.Lists.{bytesAt};
 
@@ -37,5 +37,15 @@ pub fn copy(src: &[u8], from: usize, dst: &mut [u8], to: usize, n: usize)
 {
     for j in 0..n {
         put(dst, to + j, at(src, from + j));
+    }
+}
+
+// Stores b at n places, from place `from` of dst on.
+pub fn fill(dst: &mut [u8], from: usize, n: usize, b: u8)
+    requires { ⌜ from + n < 2 ^ 64 ⌝ }
+    ensures { λ _. ⌜ now (dst .exit) ≡ sets (now (dst .entry)) from (replicate n b) ⌝ }
+{
+    for j in 0..n {
+        put(dst, from + j, b);
     }
 }

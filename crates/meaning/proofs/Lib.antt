@@ -4,3 +4,4 @@ pub mod Parsing
 pub mod Files
 pub mod Tables
 pub mod Records
+pub mod Answers

@@ -17,7 +17,9 @@ use Rattle.meaning.specs.Sizes.{maxParts, maxVariables, maxClocks, maxVa
 use Rattle.meaning.specs.Program.{parts, variables, clocks}
 use Rattle.meaning.specs.Table.{insideOf, isTable}
 use Rattle.meaning.specs.Conditions.{Situation}
-use Rattle.meaning.specs.Cycle.{Fate, STAYS, ENDS, FIRST, SECOND, applied, begins, freshFrom, fresh, breaks, checkedFrom, checkedMarks, offeredRecord, leavesFrom, settledFrom, settledMarks, rootEnded, startsClock, clockFlags, clockStarts, settledRecord, estimateAllowed, freshRecord, beginRefusal, begunInto}
+use Rattle.meaning.specs.declared.Fate.{Fate}
+use Rattle.meaning.specs.declared.Fate.the-variants.{Stays, Ends, First, Second}
+use Rattle.meaning.specs.Cycle.{applied, begins, freshFrom, fresh, breaks, checkedFrom, checkedMarks, offeredRecord, leavesFrom, settledFrom, settledMarks, rootEnded, startsClock, clockFlags, clockStarts, settledRecord, estimateAllowed, freshRecord, beginRefusal, begunInto}
 use Rattle.meaning.specs.Record.{timePlace, estimatePlace, startedPlace, startsPlace, marksPlace, recordLength, timeAt, phaseOf, lastTime, estimateIn, startedIn, startsIn, marksIn, recordBytes, isMark, isZero, restZero, valuesAllowed, clockAllowed, clocksAllowed, rootAllowed, partsAllowed, recordAllowed, waiting, offered, finished}
 use Rattle.meaning.proofs.Tables.{table-held}
 
@@ -195,10 +197,10 @@ length-checked t s p (m ∷ ms) (suc skip) = ap suc (length-checked t s (suc p) 
 
 length-applied : (t : List ℕ) (p : ℕ) (f : Fate) (rest : List ℕ) → length (applied t p f rest) ≡ suc (length rest)
 unfolding applied
-length-applied t p STAYS rest = refl
-length-applied t p ENDS rest = simp (cond-map (length {A = ℕ}), length-sets, cond-same)
-length-applied t p FIRST rest = simp length-sets
-length-applied t p SECOND rest = simp length-sets
+length-applied t p Stays rest = refl
+length-applied t p Ends rest = simp (cond-map (length {A = ℕ}), length-sets, cond-same)
+length-applied t p First rest = simp length-sets
+length-applied t p Second rest = simp length-sets
 
 pub length-settled : (t : List ℕ) (s : Situation) (p : ℕ) (ms : List ℕ) → length (settledFrom t s p ms) ≡ length ms
 unfolding settledFrom

@@ -11,6 +11,8 @@ use Rattle.base.specs.Lists.{all, any, flat, tabulate, flag, firstFailing}
 use Rattle.meaning.specs.declared.Operand.{Operand}
 use Rattle.meaning.specs.declared.Entry.{Entry}
 use Rattle.meaning.specs.declared.Form.the-variants.{Table}
+use Rattle.meaning.specs.declared.Fate.{Fate}
+use Rattle.meaning.specs.declared.Fate.the-variants.{Stays, Ends, First, Second}
 use Rattle.meaning.specs.Sizes.{maxValue, timeWidth, noPart, littleEndian}
 use Rattle.meaning.specs.Kinds.{Kind, UNKNOWN, GOAL, START, WAIT, SEQ, PAR, MAINTAIN, CHOICE, REPEAT, numberOf, value}
 use Rattle.meaning.specs.Program.{variables, clocks, entryAt}
@@ -87,26 +89,23 @@ goalBytes n es = tabulate (λ v. goalByte (valuesFor v es)) 0 n
 abbrev pub Names : List ℕ → ℕ → Type 0
 Names goals n = ((n < length goals) × (getD goals n 0 ≡ contested)) ⊎ ((n ≡ noGoal) × ((v : ℕ) → v < length goals → getD goals v 0 ≡ contested → ⊥))
 
--- Settling. What becomes of a marked part
-pub data Fate : Type 0 where
-  STAYS ENDS FIRST SECOND : Fate
-
+-- Settling. What becomes of a marked part (`Fate`)
 abbrev pub endsIf : Bool → Fate
-endsIf true = ENDS
-endsIf false = STAYS
+endsIf true = Ends
+endsIf false = Stays
 
 -- "A marked GOAL ends when its variable has its value, a WAIT when satisfied, a START always"; a deciding CHOICE (document 01's term: marked,
 -- with nothing marked inside) has "its first child initialised if satisfied, else its second"; "Any other marked composite with nothing marked
 -- inside after this ends too". `before` and `after` say whether something is marked inside, before and after the settling of what is inside
 unfoldable pub fate : Situation → Kind → Operand → Bool → Bool → Fate
-fate s UNKNOWN o before after = STAYS
+fate s UNKNOWN o before after = Stays
 fate s GOAL o before after = endsIf (reached s o)
-fate s START o before after = ENDS
+fate s START o before after = Ends
 fate s WAIT o before after = endsIf (satisfied s o)
 fate s SEQ o before after = endsIf (not after)
 fate s PAR o before after = endsIf (not after)
 fate s MAINTAIN o before after = endsIf (not after)
-fate s CHOICE o before after = cond before (endsIf (not after)) (cond (satisfied s o) FIRST SECOND)
+fate s CHOICE o before after = cond before (endsIf (not after)) (cond (satisfied s o) First Second)
 fate s REPEAT o before after = endsIf (not after)
 
 -- marks from part p on, in which part q is initialised
@@ -115,10 +114,10 @@ begun t p q ms = sets ms (q - p) (fresh t q)
 
 -- "A part that ends loses its mark and then initialises its next, if it has one"
 unfoldable pub applied : List ℕ → ℕ → Fate → List ℕ → List ℕ
-applied t p STAYS rest = 1 ∷ rest
-applied t p ENDS rest = cond (eqb (nextAt t p) noPart) (0 ∷ rest) (begun t p (nextAt t p) (0 ∷ rest))
-applied t p FIRST rest = begun t p (suc p) (1 ∷ rest)
-applied t p SECOND rest = begun t p (endAt t (suc p)) (1 ∷ rest)
+applied t p Stays rest = 1 ∷ rest
+applied t p Ends rest = cond (eqb (nextAt t p) noPart) (0 ∷ rest) (begun t p (nextAt t p) (0 ∷ rest))
+applied t p First rest = begun t p (suc p) (1 ∷ rest)
+applied t p Second rest = begun t p (endAt t (suc p)) (1 ∷ rest)
 
 -- part p, marked m before, with the marks after it before and after their own settling
 abbrev pub settledPart : List ℕ → Situation → ℕ → ℕ → List ℕ → List ℕ → List ℕ

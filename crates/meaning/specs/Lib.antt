@@ -3,7 +3,8 @@ pub mod Kinds
 pub mod Tree
 pub mod Program
 pub mod Table
-pub mod Answers
 pub mod Conditions
 pub mod Record
 pub mod Cycle
+pub mod Answers
+pub mod Operations

@@ -2,8 +2,10 @@
 // proofs/; the types here are those that the definitions share with the code.
 pub mod sizes;
 
+use crate::sizes::ANSWERED;
+use crate::sizes::NO_GOAL;
 ghost use mathlib.Core.Path.{_≡_};
-ghost use Rattle.meaning.specs.Answers.{refusalNumber, answerNumber};
+ghost use Rattle.meaning.specs.Answers.{refusalNumber, answerNumber, offerNumber, settleNumber};
 
 // A part's number, or a count of parts.
 pub type Number = u8;
@@ -36,6 +38,15 @@ pub enum Outcome {
     Open,
 }
 
+// What becomes of a marked part at a settling: it stays marked, it ends, or it is a CHOICE that takes
+// its first or its second child.
+pub enum Fate {
+    Stays,
+    Ends,
+    First,
+    Second,
+}
+
 // Why a call is refused.
 pub enum Refusal {
     FileTooShort,
@@ -47,12 +58,32 @@ pub enum Refusal {
     TooDeep,
     BufferTooShort,
     NotATable,
+    RecordNotAllowed,
+    WrongPhase,
+    TimeBeforeLast,
+    EstimateNotAllowed,
+    RunFinished,
+    NothingAtWork,
 }
 
 // What a call that gives no value answers.
 pub enum Answer {
     Done,
     Refused(Refusal),
+}
+
+// What an offer answers: a refusal, that no variable is contested, or one that is.
+pub enum OfferAnswer {
+    Refused(Refusal),
+    Agreed,
+    Contested(u8),
+}
+
+// What a settling answers: a refusal, or whether the run goes on.
+pub enum SettleAnswer {
+    Refused(Refusal),
+    Running,
+    Finished,
 }
 
 // The number by which document 01 names a refusal.
@@ -69,6 +100,12 @@ pub fn refusal_number(r: Refusal) -> u32
         Refusal::TooDeep => 7,
         Refusal::BufferTooShort => 8,
         Refusal::NotATable => 9,
+        Refusal::RecordNotAllowed => 10,
+        Refusal::WrongPhase => 11,
+        Refusal::TimeBeforeLast => 12,
+        Refusal::EstimateNotAllowed => 13,
+        Refusal::RunFinished => 14,
+        Refusal::NothingAtWork => 15,
     }
 }
 
@@ -79,5 +116,28 @@ pub fn answer_number(a: Answer) -> u32
     match a {
         Answer::Done => 0,
         Answer::Refused(r) => refusal_number(r),
+    }
+}
+
+// An offer's answer as a number: the refusal's, or 256 and the contested variable that it names, 255
+// for none.
+pub fn offer_number(a: OfferAnswer) -> u32
+    ensures { λ n. ⌜ n ≡ offerNumber a ⌝ }
+{
+    match a {
+        OfferAnswer::Refused(r) => refusal_number(r),
+        OfferAnswer::Agreed => ANSWERED + (NO_GOAL as u32),
+        OfferAnswer::Contested(v) => ANSWERED + (v as u32),
+    }
+}
+
+// A settling's answer as a number: the refusal's, or 256 where the run goes on, or 257.
+pub fn settle_number(a: SettleAnswer) -> u32
+    ensures { λ n. ⌜ n ≡ settleNumber a ⌝ }
+{
+    match a {
+        SettleAnswer::Refused(r) => refusal_number(r),
+        SettleAnswer::Running => ANSWERED,
+        SettleAnswer::Finished => ANSWERED + 1,
     }
 }

@@ -52,3 +52,11 @@ pub const WAITING: u8 = 0;
 pub const OFFERED: u8 = 1;
 
 pub const FINISHED: u8 = 2;
+
+// Goal bytes that are no value: no GOAL names the variable, and two GOALs differ.
+pub const NO_GOAL: u8 = 255;
+
+pub const CONTESTED: u8 = 254;
+
+// Numbers from here on are answers that are no refusal.
+pub const ANSWERED: u32 = 256;

@@ -11,7 +11,6 @@ use lib.Seq.{sets, sets-eq, getD-drop}
 use borrow.Author.Tests.{le-leb, eq-eqb, ne-eqb, eqb-true}
 use Rattle.meaning.specs.declared.Form.the-variants.{File, Table}
 use Rattle.meaning.specs.declared.Refusal.{Refusal}
-use Rattle.meaning.specs.declared.Refusal.the-variants.{FileTooShort, SizeOutOfRange, WrongLength, UnknownKind, OperandNotAllowed, NotOneTree, TooDeep, BufferTooShort, NotATable}
 use Rattle.meaning.specs.declared.Answer.{Answer}
 use Rattle.meaning.specs.declared.Answer.the-variants.{Done, Refused}
 use Rattle.meaning.specs.Answers.{refusalNumber, answerNumber}
@@ -19,23 +18,12 @@ use Rattle.meaning.specs.Sizes.{maxParts, lengthOf}
 use Rattle.meaning.specs.Tree.{Part}
 use Rattle.meaning.specs.Program.{parts, variables, clocks, programRefusal}
 use Rattle.meaning.specs.Table.{compiled, readRefusal, readInto}
+use Rattle.meaning.proofs.Answers.{refusal-counts}
 use Rattle.meaning.proofs.Files.{Holds, accepted}
 use Rattle.meaning.proofs.Tables.{compiled-is, table-holds}
 use Rattle.report.specs.Writing.{Written}
 use Rattle.report.specs.Listing.{line, sizeNumbers, rowLines, tableText, listing, maxListing}
 use Rattle.report.proofs.Lined.{line-fits, rows-fit}
-
--- a refusal's number is not 0, and has one digit
-pub refusal-counts : (r : Refusal) → (0 < refusalNumber r) × (refusalNumber r < 10)
-refusal-counts FileTooShort = omega arith
-refusal-counts SizeOutOfRange = omega arith
-refusal-counts WrongLength = omega arith
-refusal-counts UnknownKind = omega arith
-refusal-counts OperandNotAllowed = omega arith
-refusal-counts NotOneTree = omega arith
-refusal-counts TooDeep = omega arith
-refusal-counts BufferTooShort = omega arith
-refusal-counts NotATable = omega arith
 
 -- the line of a refusal
 pub refusal-written : (r : Refusal) (n : ℕ) (l m : List ℕ) (i j : ℕ) → n ≡ refusalNumber r → Written (line (n ∷ [])) l i m j → Written (line (refusalNumber r ∷ [])) l i m j

@@ -2,8 +2,9 @@
 use native.Mathlib.Omega.{arith}
 use mathlib.Core.List.{[], _∷_}
 use borrow.Author.Needs.{needs}
+use Rattle.meaning.proofs.Answers.{refusal-counts}
 use Rattle.report.proofs.Lined.{line-fits}
-use Rattle.report.proofs.Listed.{refusal-counts, refusal-written}
+use Rattle.report.proofs.Listed.{refusal-written}
 use Rattle.report.proofs.write_refusal.Statement.{statement}
 use Rattle.report.proofs.write_refusal.Tie as tie
 

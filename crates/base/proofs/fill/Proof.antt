@@ -1,0 +1,56 @@
+-- `fill` meets its contract. The loop's invariant: the stores still to come, onto what is there now, give the whole.
+use Prim.Native.Nat.{_+_, _-_}
+use mathlib.Core.Path.{_≡_, refl}
+use borrow.Author.Needs.{needs}
+use native.Mathlib.Nat.{add-zero, sub-zero}
+use native.Mathlib.Omega.{arith}
+use lib.ListN.{length, replicate}
+use lib.Seq.{sets}
+use Rattle.base.proofs.Stores.{fill-step, fill-end}
+use Rattle.base.proofs.fill.Statement.{statement}
+use Rattle.base.proofs.fill.Tie as tie
+
+abbrev Inv-loop : tie.InvT-loop
+Inv-loop dst₀ from n b j₀ dst j = (length dst ≡ length dst₀) × (sets dst (from + j) (replicate (n - j) b) ≡ sets dst₀ from (replicate n b))
+
+abbrev μ-loop : tie.MeasureT-loop
+μ-loop dst₀ from n b j₀ dst j = n - j
+
+loop-holds : tie.Need-loop-holds Inv-loop μ-loop
+loop-holds c = (refl, simp (add-zero, sub-zero))
+
+add-put : tie.Need-add-put Inv-loop μ-loop
+add-put c = omega arith
+
+put-requires : tie.Need-put-requires Inv-loop μ-loop
+put-requires c κs = search needs
+
+add-j : tie.Need-add-j Inv-loop μ-loop
+add-j c = omega arith
+
+loop-less : tie.Need-loop-less Inv-loop μ-loop
+loop-less c = omega arith
+
+loop-again : tie.Need-loop-again Inv-loop μ-loop
+loop-again c = ((cc), search fill-step)
+
+same-length : tie.Need-same-length Inv-loop μ-loop
+same-length c = (cc)
+
+returns : tie.Need-returns Inv-loop μ-loop
+returns c = search fill-end
+
+pub fill-spec : {M : Type 1} → statement M
+fill-spec =
+    tie.close
+    (tie.spec
+    Inv-loop
+    μ-loop
+    loop-holds
+    add-put
+    put-requires
+    add-j
+    loop-less
+    loop-again
+    same-length
+    returns)

@@ -1,0 +1,28 @@
+-- What the operations of a run promise: the answer's number and every byte of what they write, for refused calls too.
+use Prim.Native.Nat.{ℕ, _+_, _-_, _≤_}
+use mathlib.Core.Path.{_≡_}
+use mathlib.Core.Bool.{cond}
+use mathlib.Core.List.{List}
+use lib.Dec.{eqb}
+use lib.ListN.{length}
+use Rattle.base.specs.Lists.{flag}
+use Rattle.meaning.specs.Answers.{answered}
+use Rattle.meaning.specs.Cycle.{beginRefusal, begunInto, Names, offerRefusal, offeredGoals, offeredInto, goalsInto, rootEnded, settledMarks, settleRefusal, settledInto}
+
+-- A beginning, of a table, an estimate and a record buffer, that answers a number and leaves a record
+pub record Begun (t est r : List ℕ) (answer : ℕ) (r' : List ℕ) : Type 0 where
+  pub answer-is : answer ≡ beginRefusal t est (length r)
+  pub record-is : r' ≡ begunInto t est r
+
+-- An offer, of a table, a record, a time and a goal buffer. The name of a contested variable is free within `Names`
+pub record Offered (t r : List ℕ) (time : ℕ) (goals : List ℕ) (answer : ℕ) (r' goals' : List ℕ) : Type 0 where
+  pub refusal-is : (offerRefusal t r time (length goals) ≡ 0 → ⊥) → answer ≡ offerRefusal t r time (length goals)
+  pub answer-follows : offerRefusal t r time (length goals) ≡ 0 → answered ≤ answer
+  pub names : offerRefusal t r time (length goals) ≡ 0 → Names (offeredGoals t r time) (answer - answered)
+  pub record-is : r' ≡ offeredInto t r time (length goals)
+  pub goals-are : goals' ≡ goalsInto t r time goals
+
+-- A settling, of a table, a record and an estimate
+pub record Settled (t r est : List ℕ) (answer : ℕ) (r' : List ℕ) : Type 0 where
+  pub answer-is : answer ≡ cond (eqb (settleRefusal t r est) 0) (answered + flag (rootEnded (settledMarks t r est))) (settleRefusal t r est)
+  pub record-is : r' ≡ settledInto t r est
