@@ -36,6 +36,13 @@ use Rattle.agreement.proofs.Works.{Holding, afresh-holding, never-stall
 use Rattle.agreement.proofs.Initialised.{begin-refused}
 use Rattle.agreement.proofs.Allowed.{settle-holds, root-allowed, ended-allowed, blank-flags, marks-flags}
 
+-- a test that 0 and the number of each test pass, the number of the first that fails passes
+pub failing-passes : (f : ℕ → Bool) (ts : List (ℕ × Bool)) → f 0 ≡ true → all (λ u. f (u .0)) ts ≡ true → f (firstFailing ts) ≡ true
+failing-passes f [] z h = z
+failing-passes f (u ∷ ts) z h =
+    cond-map f (u .1) (firstFailing ts) (u .0)
+    ∙ rw (failing-passes f ts z (and-right (f (u .0)) (all (λ x. f (x .0)) ts) h), and-left (f (u .0)) (all (λ x. f (x .0)) ts) h) (cond-same (u .1) true)
+
 module _ (v k : ℕ) (p : Part) (w : Within v k p) where
   abbrev t : List ℕ
   t = tableOf v k p
@@ -337,17 +344,11 @@ module _ (v k : ℕ) (p : Part) (w : Within v k p) where
       (finishing-alike cs (treeNext p v k st (fed c)) more (n + counted (treeReply p v k st (fed c))) (s .good) (others-timed c cs h)))
 
   -- what a refusal's number can be
-  failing-possible : (ts : List (ℕ × Bool)) → all (λ u. possible (refused (u .0))) ts ≡ true → possible (refused (firstFailing ts)) ≡ true
-  failing-possible [] h = refl
-  failing-possible (u ∷ ts) h =
-      cond-map (λ n. possible (refused n)) (u .1) (firstFailing ts) (u .0)
-      ∙ rw (failing-possible ts (and-right (possible (refused (u .0))) (all (λ x. possible (refused (x .0))) ts) h), and-left (possible (refused (u .0))) (all (λ x. possible (refused (x .0))) ts) h) (cond-same (u .1) true)
-
   refusal-possible : (st : State p) (c : Fed) → possible (refused (refusalOf p v st c)) ≡ true
   refusal-possible st (offering now room) =
-      failing-possible ((14, not (eqb (st .phase) finished)) ∷ (11, not (eqb (st .phase) offered)) ∷ (12, leb (st .time) now) ∷ (8, leb v room) ∷ []) refl
+      failing-passes (λ n. possible (refused n)) ((14, not (eqb (st .phase) finished)) ∷ (11, not (eqb (st .phase) offered)) ∷ (12, leb (st .time) now) ∷ (8, leb v room) ∷ []) refl refl
   refusal-possible st (settled new) =
-      failing-possible ((14, not (eqb (st .phase) finished)) ∷ (11, not (eqb (st .phase) waiting)) ∷ (13, estimateFits v new) ∷ []) refl
+      failing-passes (λ n. possible (refused n)) ((14, not (eqb (st .phase) finished)) ∷ (11, not (eqb (st .phase) waiting)) ∷ (13, estimateFits v new) ∷ []) refl refl
 
   given-possible : (st : State p) (c : Fed) → possible (acceptedReply p v k st c) ≡ true
   given-possible st (offering now room) = refl

@@ -10,6 +10,7 @@ pub mod Settles
 pub mod Works
 pub mod Allowed
 pub mod Agreement
+pub mod Operations
 pub mod Nesting
 pub mod Checked
 pub mod Initialised

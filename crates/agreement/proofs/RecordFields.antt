@@ -9,10 +9,10 @@ use mathlib.Core.List.{List, [], _∷_, map}
 use lib.Dec.{eqb, leb}
 use borrow.Author.Tests.{ne-eqb}
 use lib.ListN.{length, getD, set, drop}
-use lib.Seq.{sets, length-sets}
+use lib.Seq.{sets, length-sets, getD-set-same}
 use Rattle.base.specs.Lists.{flat, bytesAt}
 use Rattle.base.proofs.Lists.{Passed, none-fails, length-tabulate, getD-tabulate, tabulate-same}
-use Rattle.base.proofs.Stores.{length-bytes, getD-bytes, drop-bytes, bytes-sets-out, bytes-sets, drop-sets-out}
+use Rattle.base.proofs.Stores.{length-bytes, getD-bytes, drop-bytes, getD-sets-out, bytes-sets-out, bytes-sets, drop-sets-out}
 use Rattle.meaning.specs.Sizes.{maxParts, timeWidth, littleEndian, valueFrom}
 use Rattle.meaning.specs.Program.{parts, variables, clocks}
 use Rattle.meaning.specs.Table.{isTable}
@@ -134,21 +134,32 @@ times-read : (t r xs : List ℕ) → length xs ≡ clocks t → ((c : ℕ) → c
 times-read t r xs n small long e =
     rw (← n) (times-back r xs (drop (startsPlace + timeWidth * clocks t) r) startsPlace 0 (rw e at (drop-bytes r startsPlace (timeWidth * clocks t) long)) small)
 
+-- the tests of an offer and of a settling
+abbrev pub offer-list : List ℕ → List ℕ → ℕ → ℕ → List (ℕ × Bool)
+offer-list t r time room =
+    (9, isTable t)
+    ∷ (10, recordAllowed t r)
+    ∷ (14, not (eqb (phaseOf r) finished))
+    ∷ (11, not (eqb (phaseOf r) offered))
+    ∷ (12, leb (lastTime r) time)
+    ∷ (8, leb (variables t) room)
+    ∷ []
+
+abbrev pub settle-list : List ℕ → List ℕ → List ℕ → List (ℕ × Bool)
+settle-list t r est =
+    (9, isTable t)
+    ∷ (10, recordAllowed t r)
+    ∷ (14, not (eqb (phaseOf r) finished))
+    ∷ (11, not (eqb (phaseOf r) waiting))
+    ∷ (13, estimateAllowed t est)
+    ∷ (15, rootEnded (settledMarks t r est) || worksFrom t 0 (settledMarks t r est))
+    ∷ []
+
 -- "The phase becomes 1 and the time becomes the last time"; the marks are those that the check leaves, and all else stays
 module _ (t r : List ℕ) (time room : ℕ) (h : offerRefusal t r time room ≡ 0) where
-  abbrev offer-list : List (ℕ × Bool)
-  offer-list =
-      (9, isTable t)
-      ∷ (10, recordAllowed t r)
-      ∷ (14, not (eqb (phaseOf r) finished))
-      ∷ (11, not (eqb (phaseOf r) offered))
-      ∷ (12, leb (lastTime r) time)
-      ∷ (8, leb (variables t) room)
-      ∷ []
-
-  pub offer-tests : Passed offer-list
+  pub offer-tests : Passed (offer-list t r time room)
   unfolding offerRefusal
-  offer-tests = none-fails offer-list refl h
+  offer-tests = none-fails (offer-list t r time room) refl h
 
   pub offered-record : time < 256 ^ timeWidth → Fields t (offeredInto t r time room) offered time (estimateIn t r) (startedIn t r) (startsIn t r) (checkedMarks t r time) (drop recordLength r)
   unfolding offeredInto
@@ -168,19 +179,9 @@ module _ (t r : List ℕ) (time room : ℕ) (h : offerRefusal t r time room ≡ 
 
 -- "If the root ends, phase is 2, else 0"; "The new estimate is stored"; clocks and marks are those of the settling, and all else stays
 module _ (t r est : List ℕ) (h : settleRefusal t r est ≡ 0) where
-  abbrev settle-list : List (ℕ × Bool)
-  settle-list =
-      (9, isTable t)
-      ∷ (10, recordAllowed t r)
-      ∷ (14, not (eqb (phaseOf r) finished))
-      ∷ (11, not (eqb (phaseOf r) waiting))
-      ∷ (13, estimateAllowed t est)
-      ∷ (15, rootEnded (settledMarks t r est) || worksFrom t 0 (settledMarks t r est))
-      ∷ []
-
-  pub settle-tests : Passed settle-list
+  pub settle-tests : Passed (settle-list t r est)
   unfolding settleRefusal
-  settle-tests = none-fails settle-list refl h
+  settle-tests = none-fails (settle-list t r est) refl h
 
   abbrev flags : List ℕ
   flags = clockFlags (clocks t) (startingLeaves t r) (startedIn t r)
@@ -193,6 +194,16 @@ module _ (t r est : List ℕ) (h : settleRefusal t r est ≡ 0) where
       starts-below (clocks t) (startingLeaves t r) (startedIn t r) (startsIn t r) (lastTime r) (256 ^ timeWidth)
       (λ c l. rw getD-tabulate (time-small r bytes (startsPlace + timeWidth * (0 + c))))
       (time-small r bytes timePlace)
+
+  -- the phase is the first byte, and no later store reaches it
+  pub settled-phase : phaseOf (settledRecord t r est) ≡ cond (rootEnded (settledMarks t r est)) finished waiting
+  settled-phase =
+      let phase = cond (rootEnded (settledMarks t r est)) finished waiting in
+      getD-sets-out (settledMarks t r est) _ marksPlace 0 (inl (omega arith))
+      ∙ getD-sets-out (flat (littleEndian timeWidth) times) _ startsPlace 0 (inl (omega arith))
+      ∙ getD-sets-out flags _ startedPlace 0 (inl (omega arith))
+      ∙ getD-sets-out est (set r 0 phase) estimatePlace 0 (inl (omega arith))
+      ∙ getD-set-same r 0 phase 0 (omega (arith, allowed-record t r (settle-tests .1 .0) .long-enough))
 
   -- a time is read back where the record is one of bytes
   pub settled-record : ((i : ℕ) → getD r i 0 < 256)
@@ -207,7 +218,7 @@ module _ (t r est : List ℕ) (h : settleRefusal t r est ≡ 0) where
       r (allowed-record t r (settle-tests .1 .0) .long-enough) in
       rw h
       (record {
-        phase-is = ap (λ (cs : List (List ℕ)). getD (getD cs 0 []) 0 0) (a .1);
+        phase-is = settled-phase;
         time-is = time-same (settledRecord t r est) r timePlace timeWidth (ap (λ (cs : List (List ℕ)). getD cs 1 []) (a .1)) 0 (omega arith);
         estimate-is = ap (λ (cs : List (List ℕ)). getD cs 2 []) (a .1);
         started-is = ap (λ (cs : List (List ℕ)). getD cs 3 []) (a .1);

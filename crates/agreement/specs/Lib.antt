@@ -1,3 +1,4 @@
 pub mod Unfolding
 pub mod Runs
+pub mod Calls
 pub mod Stations

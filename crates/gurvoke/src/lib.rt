@@ -5,12 +5,12 @@ use table::compile;
 use table::decompile;
 ghost use mathlib.Core.Path.{_≡_};
 ghost use lib.ListN.{length};
-ghost use Rattle.meaning.specs.Table.{readRefusal, readInto, writeRefusal, writtenInto};
+ghost use Rattle.meaning.specs.Table.{writeRefusal, writtenInto};
+ghost use Rattle.meaning.specs.Operations.{Read};
 
 #[no_mangle]
 pub extern "C" fn gurvoke_compile(file: &[u8], table: &mut [u8]) -> u32
-    ensures { λ r. ⌜ r ≡ readRefusal (now (file .entry)) (length (now (table .entry))) ⌝ }
-    ensures { λ _. ⌜ now (table .exit) ≡ readInto (now (file .entry)) (now (table .entry)) ⌝ }
+    ensures { λ a. ⌜ Read (now (file .entry)) (now (table .entry)) a (now (table .exit)) ⌝ }
 {
     answer_number(compile(file, table))
 }

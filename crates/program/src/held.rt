@@ -13,9 +13,9 @@ use meaning::sizes::MAX_VARIABLES;
 use meaning::sizes::OPERAND;
 use meaning::sizes::ROW;
 ghost use mathlib.Core.Path.{_≡_};
-ghost use Prim.Native.Nat.{_+_, _<_};
+ghost use Prim.Native.Nat.{_+_, _*_, _<_};
 ghost use lib.ListN.{getD};
-ghost use Rattle.meaning.specs.Sizes.{numberAt, lengthOf, kindPlace, operandPlace};
+ghost use Rattle.meaning.specs.Sizes.{headerLength, rowLength, numberAt, lengthOf, kindPlace, operandPlace};
 ghost use Rattle.meaning.specs.Program.{parts, variables, clocks, sizesAllowed, operandAt, entryAt};
 ghost use Rattle.meaning.specs.Table.{endAt, parentAt, nextAt};
 
@@ -107,22 +107,29 @@ pub fn entry_at(s: &[u8], form: Form, p: Number) -> Entry
     Entry { kind, operand }
 }
 
+// The number that stands i bytes after the kind in part p's row.
+fn link_at(t: &[u8], p: Number, i: u8) -> Number
+    ensures { λ r. ⌜ r ≡ numberAt (now (t .entry)) (headerLength + rowLength * p + i) ⌝ }
+{
+    number_at(t, HEADER + ROW * wide(p) + wide(i))
+}
+
 // One past the last part inside part p of a table, the part around p, and the part that begins when
 // p ends.
 pub fn end_at(t: &[u8], p: Number) -> Number
     ensures { λ r. ⌜ r ≡ endAt (now (t .entry)) p ⌝ }
 {
-    number_at(t, HEADER + ROW * wide(p) + 1)
+    link_at(t, p, 1)
 }
 
 pub fn parent_at(t: &[u8], p: Number) -> Number
     ensures { λ r. ⌜ r ≡ parentAt (now (t .entry)) p ⌝ }
 {
-    number_at(t, HEADER + ROW * wide(p) + 2)
+    link_at(t, p, 2)
 }
 
 pub fn next_at(t: &[u8], p: Number) -> Number
     ensures { λ r. ⌜ r ≡ nextAt (now (t .entry)) p ⌝ }
 {
-    number_at(t, HEADER + ROW * wide(p) + 3)
+    link_at(t, p, 3)
 }

@@ -1,0 +1,253 @@
+-- Demand 3 for the operations: what their contracts promise, call after call, is what the definitions say, and so what `demand-3` speaks of.
+use Prim.Native.Nat.{ℕ, zero, suc, _+_, _-_, _≤_, _<_}
+use native.Mathlib.Omega.{arith}
+use mathlib.Core.Path.{_≡_, refl, sym, ap, ap₂, subst, _∙_}
+use mathlib.Core.Bool.{Bool, true, false, cond, not}
+use mathlib.Core.Logic.{inl, inr}
+use mathlib.Core.Option.{Option, some, Option·some-injective}
+use mathlib.Core.List.{List, [], _∷_, map}
+use lib.Dec.{eqb, leb}
+use lib.ListN.{length, getD}
+use borrow.Author.Tests.{leb-true, leb-false, le-leb, eqb-true, eqb-false, not-true}
+use Rattle.base.specs.Lists.{all, flag, firstFailing, bytesAt}
+use Rattle.base.proofs.Lists.{none-fails}
+use Rattle.base.proofs.Stores.{bytes-sets}
+use Rattle.meaning.specs.declared.Form.the-variants.{File, Table}
+use Rattle.meaning.specs.Sizes.{lengthOf}
+use Rattle.meaning.specs.Tree.{Part}
+use Rattle.meaning.specs.Program.{parts, variables, clocks, programRefusal}
+use Rattle.meaning.specs.Table.{tableOf, compiled, readRefusal, readInto}
+use Rattle.meaning.specs.Record.{phaseOf, lastTime, estimateIn, startedIn, startsIn, waiting, finished}
+use Rattle.meaning.specs.Cycle.{noGoal, contested, Names, rootEnded, settledMarks, beginRefusal, begunInto, offerRefusal, offeredGoals, offeredInto, goalsInto, settleRefusal, settledInto}
+use Rattle.meaning.specs.Answers.{answered}
+use Rattle.meaning.specs.Operations.{Begun}
+use Rattle.meaning.proofs.Files.{accepted}
+use Rattle.meaning.proofs.Tables.{table-holds, table-accepted, compiled-is}
+use Rattle.agreement.specs.Runs.{Call, offer, settling, Reply, refused, goals, running, done, reply, settledReply, tableReply, tableNext, tableReplies, tableAfter, tableFinishing, State, begin, fed, treeNext, counted, possible, NameAlike, NamesAlike, Alike, Timed}
+use Rattle.agreement.specs.Calls.{tableIn, Made, offerMade, settlingMade, callOf, recordFrom, Promised, AllPromised, told, NameTold, NamesTold, recordAfter, finishingCycle, CallsAlike, OperationsAlike, OperationsAgree, PromisesKept}
+use Rattle.agreement.proofs.GoalBytes.{goal-bytes-into}
+use Rattle.agreement.proofs.RecordFields.{offer-list, settle-list, settled-phase}
+use Rattle.agreement.proofs.Agreement.{failing-passes, demand-3}
+
+-- the numbers of refusals are below those of the other answers
+offer-below : (t r : List ℕ) (time room : ℕ) → leb answered (offerRefusal t r time room) ≡ false
+unfolding offerRefusal
+offer-below t r time room = not-true (leb answered (offerRefusal t r time room)) (failing-passes (λ n. not (leb answered n)) (offer-list t r time room) refl refl)
+
+settle-below : (t r est : List ℕ) → leb answered (settleRefusal t r est) ≡ false
+unfolding settleRefusal
+settle-below t r est = not-true (leb answered (settleRefusal t r est)) (failing-passes (λ n. not (leb answered n)) (settle-list t r est) refl refl)
+
+-- What an offer's answer tells, where n is its refusal by the definitions, and what a settling's does, where b says that the root has ended
+offer-tells : (n answer : ℕ) (gs : List ℕ) → ((n ≡ 0 → ⊥) → answer ≡ n) → (n ≡ 0 → answered ≤ answer) → leb answered n ≡ false
+    → cond (leb answered answer) (goals gs) (refused answer) ≡ reply n (goals gs)
+offer-tells n answer gs refuses gives l = go (eqb n 0) refl
+  where
+    go : (b : Bool) → eqb n 0 ≡ b → cond (leb answered answer) (goals gs) (refused answer) ≡ cond b (goals gs) (refused n)
+    go true e = rw (le-leb answered answer (gives (eqb-true n 0 e)))
+    go false e = rw (refuses (eqb-false n 0 e), l)
+
+settle-tells : (n phase : ℕ) (b : Bool) → (n ≡ 0 → phase ≡ cond b finished waiting) → leb answered n ≡ false → (answer : ℕ) → answer ≡ cond (eqb n 0) (answered + flag b) n
+    → cond (leb answered answer) (cond (eqb answer (answered + 1)) done running) (refused answer) ≡ reply n (settledReply phase)
+settle-tells n phase b ends l answer a = rw a (go (eqb n 0) refl)
+  where
+    on : (c : Bool) → cond (leb answered (answered + flag c)) (cond (eqb (answered + flag c) (answered + 1)) done running) (refused (answered + flag c)) ≡ settledReply (cond c finished waiting)
+    on true = refl
+    on false = refl
+
+    go : (c : Bool) → eqb n 0 ≡ c
+        → cond (leb answered (cond c (answered + flag b) n)) (cond (eqb (cond c (answered + flag b) n) (answered + 1)) done running) (refused (cond c (answered + flag b) n)) ≡ cond c (settledReply phase) (refused n)
+    go true e = rw (ends (eqb-true n 0 e)) (on b)
+    go false e = rw l
+
+-- One call: what it tells is the table's reply, and the record that it leaves the table's next
+phase-settled : (t r est : List ℕ) → settleRefusal t r est ≡ 0 → phaseOf (settledInto t r est) ≡ cond (rootEnded (settledMarks t r est)) finished waiting
+unfolding settledInto
+phase-settled t r est h = rw h (settled-phase t r est h)
+
+tells : (t r : List ℕ) (m : Made) → Promised t r m → told (variables t) m ≡ tableReply t r (callOf m)
+tells t r (offerMade time buffer answer r' buffer') h =
+    rw (h .goals-are)
+    (offer-tells (offerRefusal t r time (length buffer)) answer (bytesAt (goalsInto t r time buffer) 0 (variables t)) (h .refusal-is) (h .answer-follows) (offer-below t r time (length buffer)))
+tells t r (settlingMade est answer r') h =
+    settle-tells (settleRefusal t r est) (phaseOf (settledInto t r est)) (rootEnded (settledMarks t r est)) (phase-settled t r est) (settle-below t r est) answer (h .answer-is)
+
+leaves : (t r : List ℕ) (m : Made) → Promised t r m → recordFrom m ≡ tableNext t r (callOf m)
+leaves t r (offerMade time buffer answer r' buffer') h = h .record-is
+leaves t r (settlingMade est answer r') h = h .record-is
+
+-- an answer of 256 or more is no refusal
+not-refused : (n answer : ℕ) → ((n ≡ 0 → ⊥) → answer ≡ n) → leb answered n ≡ false → answered ≤ answer → n ≡ 0
+not-refused n answer refuses l a = go (eqb n 0) refl
+  where
+    go : (b : Bool) → eqb n 0 ≡ b → n ≡ 0
+    go true e = eqb-true n 0 e
+    go false e = absurd (omega (arith, refuses (eqb-false n 0 e), leb-false answered n l))
+
+-- the name in the answer is one that the table's offer may give
+names-told : (t r : List ℕ) (p : Part) (st : State p) (m : Made) → Promised t r m → NameAlike t r p st (callOf m) → NameTold p (variables t) st m
+names-told t r p st (offerMade time buffer answer r' buffer') h alike =
+    λ a.
+    let z = not-refused (offerRefusal t r time (length buffer)) answer (h .refusal-is) (offer-below t r time (length buffer)) a in
+    alike z (answer - answered) (rw (goal-bytes-into t r time buffer z .0) (h .names z))
+names-told t r p st (settlingMade est answer r') h alike = tt
+
+-- A list of calls on one table, which has v variables
+module _ (t : List ℕ) (v : ℕ) (same : variables t ≡ v) where
+  tells-same : (r : List ℕ) (m : Made) → Promised t r m → told v m ≡ tableReply t r (callOf m)
+  tells-same r m h = ap (λ (n : ℕ). told n m) (sym same) ∙ tells t r m h
+
+  replies-are : (ms : List Made) (r : List ℕ) → AllPromised t r ms → map (told v) ms ≡ tableReplies t r (map callOf ms)
+  replies-are [] r h = refl
+  replies-are (m ∷ ms) r h =
+      ap₂ (λ (x : Reply) (xs : List Reply). x ∷ xs) (tells-same r m (h .0)) (replies-are ms (recordFrom m) (h .1) ∙ ap (λ (q : List ℕ). tableReplies t q (map callOf ms)) (leaves t r m (h .0)))
+
+  record-is : (ms : List Made) (r : List ℕ) → AllPromised t r ms → recordAfter r ms ≡ tableAfter t r (map callOf ms)
+  record-is [] r h = refl
+  record-is (m ∷ ms) r h = record-is ms (recordFrom m) (h .1) ∙ ap (λ (q : List ℕ). tableAfter t q (map callOf ms)) (leaves t r m (h .0))
+
+  finishing-is : (ms : List Made) (r : List ℕ) (n : ℕ) → AllPromised t r ms → finishingCycle v r n ms ≡ tableFinishing t r n (map callOf ms)
+  unfolding finishingCycle tableFinishing
+  finishing-is [] r n h = refl
+  finishing-is (m ∷ ms) r n h =
+      ap (λ (o : Option ℕ). cond (eqb (phaseOf r) finished) (some n) o)
+      (finishing-is ms (recordFrom m) (n + counted (told v m)) (h .1)
+      ∙ ap₂ (λ (q : List ℕ) (x : Reply). tableFinishing t q (n + counted x) (map callOf ms)) (leaves t r m (h .0)) (tells-same r m (h .0)))
+
+  names-are : (p : Part) (k : ℕ) (ms : List Made) (r : List ℕ) (st : State p) → AllPromised t r ms → NamesAlike t r p v k st (map callOf ms) → NamesTold p v k st ms
+  names-are p k [] r st h alike = tt
+  names-are p k (m ∷ ms) r st h alike = (
+    subst (λ (n : ℕ). NameTold p n st m) same (names-told t r p st m (h .0) (alike .0)),
+    names-are p k ms (recordFrom m) (treeNext p v k st (fed (callOf m))) (h .1) (subst (λ (q : List ℕ). NamesAlike t q p v k (treeNext p v k st (fed (callOf m))) (map callOf ms)) (sym (leaves t r m (h .0))) (alike .1)),
+  )
+
+  -- what is so for the table's run is so for the calls that came back as promised
+  calls-alike : (r : List ℕ) (p : Part) (k : ℕ) (st : State p) (ms : List Made) → AllPromised t r ms → Alike t r p v k st (map callOf ms) → CallsAlike t r p v k st ms
+  calls-alike r p k st ms h alike =
+      let after = record-is ms r h in
+      record {
+        replies = replies-are ms r h ∙ alike .replies;
+        names = names-are p k ms r st h (alike .names);
+        never = ap (all possible) (replies-are ms r h) ∙ alike .never;
+        phases = ap phaseOf after ∙ alike .phases;
+        times = ap lastTime after ∙ alike .times;
+        estimates = ap (estimateIn t) after ∙ alike .estimates;
+        flags = ap (startedIn t) after ∙ alike .flags;
+        clock-starts = ap (startsIn t) after ∙ alike .clock-starts;
+        finishing = finishing-is ms r 0 h ∙ alike .finishing;
+      }
+
+-- two refusals one after the other are none only where both are
+both-none : (m n : ℕ) → cond (eqb n 0) m n ≡ 0 → (n ≡ 0) × (m ≡ 0)
+both-none m n = go (eqb n 0) refl
+  where
+    go : (b : Bool) → eqb n 0 ≡ b → cond b m n ≡ 0 → (n ≡ 0) × (m ≡ 0)
+    go true e h = (eqb-true n 0 e, h)
+    go false e h = absurd (eqb-false n 0 e h)
+
+module _ (f : List ℕ) where
+  -- a file that reading does not refuse is a program's, and there is room for its table
+  read-accepted : (room : ℕ) → readRefusal f room ≡ 0 → (programRefusal File f ≡ 0) × (lengthOf Table (parts f) ≤ room)
+  unfolding readRefusal
+  read-accepted room h =
+      let x = both-none (firstFailing ((8, leb (lengthOf Table (parts f)) room) ∷ [])) (programRefusal File f) h in
+      (x .0, leb-true (lengthOf Table (parts f)) room (none-fails ((8, leb (lengthOf Table (parts f)) room) ∷ []) refl (x .1) .0))
+
+  module _ (a : programRefusal File f ≡ 0) where
+    abbrev tree : Part
+    tree = accepted File f a .0
+
+    compiled-tree : compiled File f ≡ tableOf (variables f) (clocks f) tree
+    compiled-tree = compiled-is File f tree (accepted File f a .1)
+
+    compiled-variables : variables (compiled File f) ≡ variables f
+    compiled-variables = rw compiled-tree (table-accepted (variables f) (clocks f) tree (accepted File f a .2 .within) .2)
+
+    compiled-length : length (compiled File f) ≡ lengthOf Table (parts f)
+    compiled-length =
+        let held = table-holds (variables f) (clocks f) tree (accepted File f a .2 .within) in
+        rw compiled-tree (held .length-is ∙ ap (lengthOf Table) (held .parts-are ∙ sym (accepted File f a .2 .parts-are)))
+
+  -- the buffer that reading leaves begins with the file's table
+  read-table : (out : List ℕ) → readRefusal f (length out) ≡ 0 → tableIn f (readInto f out) ≡ compiled File f
+  unfolding readInto
+  read-table out h =
+      let x = read-accepted (length out) h in
+      rw h (bytes-sets (compiled File f) out 0 (lengthOf Table (parts f)) (compiled-length (x .0)) (omega (arith, x .1)))
+
+  -- A beginning on the file's table, and the calls after it
+  module _ (a : programRefusal File f ≡ 0) (est r : List ℕ) where
+    -- demand 3 for each list of calls speaks of this one tree
+    program-alike : (cs : List Call) → Timed cs → beginRefusal (compiled File f) est (length r) ≡ 0
+        → Alike (compiled File f) (begunInto (compiled File f) est r) (tree a) (variables f) (clocks f) (begin (tree a) (clocks f) est) cs
+    program-alike cs h z =
+        let d = demand-3 f est r cs a h in
+        subst (λ (p : Part). Alike (compiled File f) (begunInto (compiled File f) est r) p (variables f) (clocks f) (begin p (clocks f) est) cs)
+        (Option·some-injective (d .program) (tree a) (sym (d .read) ∙ accepted File f a .1))
+        (d .begun z)
+
+    begun-alike : (answer : ℕ) (r' : List ℕ) → Begun (compiled File f) est r answer r' → OperationsAlike f (compiled File f) est r answer r'
+    begun-alike answer r' b =
+        let d = demand-3 f est r [] a tt in
+        record {
+          program = tree a;
+          read = accepted File f a .1;
+          beginning = b .answer-is ∙ d .beginning;
+          unbegun = λ n. b .record-is ∙ d .unbegun (λ z. n (b .answer-is ∙ z));
+          begun =
+              λ z ms h timed.
+              calls-alike (compiled File f) (variables f) (compiled-variables a) r' (tree a) (clocks f) (begin (tree a) (clocks f) est) ms h
+              (subst (λ (q : List ℕ). Alike (compiled File f) q (tree a) (variables f) (clocks f) (begin (tree a) (clocks f) est) (map callOf ms)) (sym (b .record-is)) (program-alike (map callOf ms) timed (sym (b .answer-is) ∙ z)));
+        }
+
+pub operations-agree : OperationsAgree
+operations-agree f out answer out' read z est r answer' r' b =
+    let h : readRefusal f (length out) ≡ 0 = sym (read .answer-is) ∙ z in
+    let e : tableIn f out' ≡ compiled File f = ap (tableIn f) (read .buffer-is) ∙ read-table f out h in
+    subst (λ (t : List ℕ). Begun t est r answer' r' → OperationsAlike f t est r answer' r') (sym e) (begun-alike f (read-accepted f (length out) h .0) est r answer' r') b
+
+-- A name that an offer may give is there for all goal bytes: the lowest contested variable, or 255
+some-name : (gs : List ℕ) → (n : ℕ) × Names gs n
+some-name [] = (noGoal, inr (refl, λ v l. absurd (omega arith)))
+some-name (g ∷ gs) = go (eqb g contested) refl (some-name gs)
+  where
+    none-of : (g ≡ contested → ⊥) → ((v : ℕ) → v < length gs → getD gs v 0 ≡ contested → ⊥) → (v : ℕ) → v < length (g ∷ gs) → getD (g ∷ gs) v 0 ≡ contested → ⊥
+    none-of a b zero l = a
+    none-of a b (suc v) l = b v (omega arith)
+
+    go : (b : Bool) → eqb g contested ≡ b → (n : ℕ) × Names gs n → (n : ℕ) × Names (g ∷ gs) n
+    go true e later = (0, inl (omega arith, eqb-true g contested e))
+    go false e (n, inl (l, c)) = (suc n, inl (omega arith, c))
+    go false e (n, inr (a, none)) = (noGoal, inr (refl, none-of (eqb-false g contested e) none))
+
+-- an offer that keeps its promise, and then any call that does
+module _ (t r : List ℕ) (time : ℕ) (buffer : List ℕ) where
+  abbrev made : ℕ → Made
+  made answer = offerMade time buffer answer (offeredInto t r time (length buffer)) (goalsInto t r time buffer)
+
+  offer-kept : (b : Bool) → eqb (offerRefusal t r time (length buffer)) 0 ≡ b → (answer : ℕ) × Promised t r (made answer)
+  offer-kept true e =
+      let x = some-name (offeredGoals t r time) in
+      let z = eqb-true (offerRefusal t r time (length buffer)) 0 e in
+      let back : answered + x .0 - answered ≡ x .0 = omega arith in
+      (answered + x .0, record { refusal-is = λ a. absurd (a z); answer-follows = λ a. omega arith; names = λ a. rw back (x .1); record-is = refl; goals-are = refl })
+  offer-kept false e =
+      let z = eqb-false (offerRefusal t r time (length buffer)) 0 e in
+      (offerRefusal t r time (length buffer), record { refusal-is = λ a. refl; answer-follows = λ a. absurd (z a); names = λ a. absurd (z a); record-is = refl; goals-are = refl })
+
+promise-kept : (t r : List ℕ) (c : Call) → (m : Made) × (callOf m ≡ c) × Promised t r m
+promise-kept t r (offer time buffer) =
+    let x = offer-kept t r time buffer (eqb (offerRefusal t r time (length buffer)) 0) refl in
+    (made t r time buffer (x .0), refl, x .1)
+promise-kept t r (settling est) = (
+  settlingMade est (cond (eqb (settleRefusal t r est) 0) (answered + flag (rootEnded (settledMarks t r est))) (settleRefusal t r est)) (settledInto t r est),
+  refl,
+  record { answer-is = refl; record-is = refl },
+)
+
+pub promises-kept : PromisesKept
+promises-kept t r [] = ([], refl, tt)
+promises-kept t r (c ∷ cs) =
+    let x = promise-kept t r c in
+    let later = promises-kept t (recordFrom (x .0)) cs in
+    (x .0 ∷ later .0, ap₂ (λ (d : Call) (ds : List Call). d ∷ ds) (x .1) (later .1), (x .2, later .2))

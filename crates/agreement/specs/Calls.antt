@@ -1,0 +1,103 @@
+-- The run by the operations themselves: calls that were made one after the other, with the answers and the bytes that came back, beside the
+-- unfolding. Of the operations nothing is known here but what their contracts promise.
+use Prim.Native.Nat.{ℕ, _+_, _-_, _≤_}
+use mathlib.Core.Path.{_≡_}
+use mathlib.Core.Bool.{true, cond}
+use mathlib.Core.Option.{Option, none, some}
+use mathlib.Core.List.{List, [], _∷_, map}
+use lib.Dec.{eqb, leb}
+use lib.ListN.{length}
+use Rattle.base.specs.Lists.{all, firstFailing, bytesAt}
+use Rattle.meaning.specs.declared.Form.the-variants.{File, Table}
+use Rattle.meaning.specs.Sizes.{lengthOf}
+use Rattle.meaning.specs.Tree.{Part}
+use Rattle.meaning.specs.Program.{parts, variables, clocks, treeOf}
+use Rattle.meaning.specs.Record.{phaseOf, lastTime, estimateIn, startedIn, startsIn, recordLength, finished}
+use Rattle.meaning.specs.Answers.{answered}
+use Rattle.meaning.specs.Operations.{Read, Begun, Offered, Settled}
+use Rattle.agreement.specs.Runs.{Call, offer, settling, Reply, refused, goals, running, done, State, begin, fed, workingOf, offeredState, treeNext, treeReplies, treeAfter, treeFinishing, counted, possible, estimateFits, NamesContested, Timed}
+
+-- The table in the buffer that reading leaves: as many bytes as the table of the file's parts has
+abbrev pub tableIn : List ℕ → List ℕ → List ℕ
+tableIn f out = bytesAt out 0 (lengthOf Table (parts f))
+
+-- A call that was made, with what came back: the answer's number, the record afterwards and, of an offer, the goal buffer afterwards
+pub data Made : Type 0 where
+  offerMade : (time : ℕ) (buffer : List ℕ) (answer : ℕ) (r' buffer' : List ℕ) → Made
+  settlingMade : (est : List ℕ) (answer : ℕ) (r' : List ℕ) → Made
+
+abbrev pub callOf : Made → Call
+callOf (offerMade time buffer answer r' buffer') = offer time buffer
+callOf (settlingMade est answer r') = settling est
+
+abbrev pub recordFrom : Made → List ℕ
+recordFrom (offerMade time buffer answer r' buffer') = r'
+recordFrom (settlingMade est answer r') = r'
+
+-- It came back as the operation's contract promises, for the table and the record that it was given
+abbrev pub Promised : List ℕ → List ℕ → Made → Type 0
+Promised t r (offerMade time buffer answer r' buffer') = Offered t r time buffer answer r' buffer'
+Promised t r (settlingMade est answer r') = Settled t r est answer r'
+
+-- so did every call of a list, each given the table and the record as the last call left it
+abbrev pub AllPromised : List ℕ → List ℕ → List Made → Type 0
+AllPromised t r [] = Unit {0}
+AllPromised t r (m ∷ ms) = Promised t r m × AllPromised t (recordFrom m) ms
+
+-- What a call tells its caller, read from the answer's number and the goal buffer alone: numbers below 256 refuse, else an offer has left its
+-- V goal bytes in the buffer, and a settling's 257 is "finished" and 256 "running"
+abbrev pub told : ℕ → Made → Reply
+told v (offerMade time buffer answer r' buffer') = cond (leb answered answer) (goals (bytesAt buffer' 0 v)) (refused answer)
+told v (settlingMade est answer r') = cond (leb answered answer) (cond (eqb answer (answered + 1)) done running) (refused answer)
+
+-- the name in the answer of an offer that is not refused, beside the state in which the unfolding gets this offer
+abbrev pub NameTold : (p : Part) → ℕ → State p → Made → Type 0
+NameTold p v st (offerMade time buffer answer r' buffer') = answered ≤ answer → NamesContested v (workingOf p (offeredState p st time .rest)) (answer - answered)
+NameTold p v st (settlingMade est answer r') = Unit {0}
+
+abbrev pub NamesTold : (p : Part) → ℕ → ℕ → State p → List Made → Type 0
+NamesTold p v k st [] = Unit {0}
+NamesTold p v k st (m ∷ ms) = NameTold p v st m × NamesTold p v k (treeNext p v k st (fed (callOf m))) ms
+
+-- The record that a list of calls comes to
+abbrev pub recordAfter : List ℕ → List Made → List ℕ
+recordAfter r [] = r
+recordAfter r (m ∷ ms) = recordAfter (recordFrom m) ms
+
+-- "The finishing cycle is the number of settlings not refused up to the moment at which the phase is first 2": by the records that came back
+unfoldable pub finishingCycle : ℕ → List ℕ → ℕ → List Made → Option ℕ
+finishingCycle v r n [] = cond (eqb (phaseOf r) finished) (some n) none
+finishingCycle v r n (m ∷ ms) = cond (eqb (phaseOf r) finished) (some n) (finishingCycle v (recordFrom m) (n + counted (told v m)) ms)
+
+-- The calls made and the unfolding are alike, from a record and a state on: all that `Alike` says, about what came back
+pub record CallsAlike (t r : List ℕ) (p : Part) (v k : ℕ) (st : State p) (ms : List Made) : Type 0 where
+  pub replies : map (told v) ms ≡ treeReplies p v k st (map callOf ms)
+  pub names : NamesTold p v k st ms
+  pub never : all possible (map (told v) ms) ≡ true
+  pub phases : phaseOf (recordAfter r ms) ≡ treeAfter p v k st (map callOf ms) .phase
+  pub times : lastTime (recordAfter r ms) ≡ treeAfter p v k st (map callOf ms) .time
+  pub estimates : estimateIn t (recordAfter r ms) ≡ treeAfter p v k st (map callOf ms) .estimate
+  pub flags : startedIn t (recordAfter r ms) ≡ treeAfter p v k st (map callOf ms) .started
+  pub clock-starts : startsIn t (recordAfter r ms) ≡ treeAfter p v k st (map callOf ms) .starts
+  pub finishing : finishingCycle v r 0 ms ≡ treeFinishing p v k st 0 (map callOf ms)
+
+-- A beginning on a file's table that answered a number and left a record: it answers 13, 8 or 0; refused, it has left the record as it was;
+-- not refused, every list of calls that came back as promised is alike with the unfolding
+pub record OperationsAlike (f t est r : List ℕ) (answer : ℕ) (r' : List ℕ) : Type 0 where
+  pub program : Part
+  pub read : treeOf File f ≡ some program
+  pub beginning : answer ≡ firstFailing ((13, estimateFits (variables f) est) ∷ (8, leb recordLength (length r)) ∷ [])
+  pub unbegun : (answer ≡ 0 → ⊥) → r' ≡ r
+  pub begun : answer ≡ 0 → (ms : List Made) → AllPromised t r' ms → Timed (map callOf ms) → CallsAlike t r' program (variables f) (clocks f) (begin program (clocks f) est) ms
+
+-- Demand 3 for the operations: whatever reading, a beginning on the table that it wrote, and calls after that answer and leave within their
+-- contracts is alike with the unfolding, for every file that reading does not refuse, all buffers, every first estimate and every list of calls
+abbrev pub OperationsAgree : Type 0
+OperationsAgree =
+    (f out : List ℕ) (answer : ℕ) (out' : List ℕ) → Read f out answer out' → answer ≡ 0
+    → (est r : List ℕ) (answer' : ℕ) (r' : List ℕ) → Begun (tableIn f out') est r answer' r'
+    → OperationsAlike f (tableIn f out') est r answer' r'
+
+-- The promises can be kept: whatever table, record and calls, there are answers and bytes within the contracts
+abbrev pub PromisesKept : Type 0
+PromisesKept = (t r : List ℕ) (cs : List Call) → (ms : List Made) × (map callOf ms ≡ cs) × AllPromised t r ms
