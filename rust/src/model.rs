@@ -50,6 +50,18 @@ pub const TOO_DEEP: u32 = 7;
 pub const OUTPUT_TOO_SHORT: u32 = 8;
 /// Refusal: the bytes are not the table of any file.
 pub const NOT_A_TABLE: u32 = 9;
+/// Refusal: the record is not allowed, or too short.
+pub const RECORD_NOT_ALLOWED: u32 = 10;
+/// Refusal: a settling before any offer, or a second offer before the settling.
+pub const OUT_OF_TURN: u32 = 11;
+/// Refusal: the time is before the last time.
+pub const TIME_BEFORE_LAST: u32 = 12;
+/// Refusal: the estimate has not a byte for each variable, or one above the largest value.
+pub const ESTIMATE_NOT_ALLOWED: u32 = 13;
+/// Refusal: the run is finished.
+pub const RUN_FINISHED: u32 = 14;
+/// Refusal: after the settling the root has not ended, and yet nothing could go on.
+pub const NOTHING_GOES_ON: u32 = 15;
 
 /// The numbers of parts, variables and clocks of a program.
 #[derive(Clone, Copy, Debug, PartialEq, Eq)]
@@ -71,7 +83,7 @@ impl Sizes {
     }
 
     /// Whether each size is in its range.
-    fn allowed(&self) -> bool {
+    pub fn allowed(&self) -> bool {
         (MIN_PARTS..=MAX_PARTS).contains(&self.parts)
             && (MIN_VARIABLES..=MAX_VARIABLES).contains(&self.variables)
             && self.clocks <= MAX_CLOCKS

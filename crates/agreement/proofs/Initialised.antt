@@ -15,9 +15,9 @@ use Rattle.meaning.specs.Table.{endAt, parentAt, insideOf, isTable}
 use Rattle.meaning.specs.Record.{recordLength, waiting, isMark, recordBytes}
 use Rattle.meaning.specs.Cycle.{begins, freshFrom, fresh, beginRefusal, begunInto}
 use Rattle.meaning.proofs.Tables.{inside as within}
-use Rattle.meaning.proofs.Records.{Fits, length-record, phase-read, time-read, estimate-read, started-read, starts-read, marks-read, length-fresh, begin-tests, begun-fits, begun-bytes}
+use Rattle.meaning.proofs.Records.{Fits, length-record, phase-read, time-read, estimate-read, started-read, starts-read, marks-read, length-fresh, length-root, begin-tests, begun-fits, begun-bytes}
 use Rattle.agreement.proofs.RecordFields.{Fields}
-use Rattle.agreement.proofs.Nesting.{Inside, root-there, root-end, parent-inside, inside-parent, Closed, closed-inside, closed-none, closed-rest}
+use Rattle.agreement.proofs.Nesting.{Inside, parent-inside, inside-parent, Closed, closed-inside, closed-none, closed-rest}
 
 -- part q's marks once it is initialised, by the numbers of the parts
 module _ (t : List ℕ) (table : isTable t ≡ true) (q : ℕ) (marked : ℕ → ℕ) where
@@ -158,7 +158,7 @@ module _ (t est r : List ℕ) where
       → Fields t (begunInto t est r) waiting 0 est (replicate (clocks t) 0) (replicate (clocks t) 0) (fresh t 0) (drop recordLength r)
   begun-record h =
       let table : isTable t ≡ true = begin-tests t est (length r) h .0 in
-      let whole : length (fresh t 0) ≡ parts t = omega (arith, initialised-length t table 0 (root-there t table), root-end t table) in
+      let whole : length (fresh t 0) ≡ parts t = length-root t table in
       let fits : Fits t 0 est (replicate (clocks t) 0) (replicate (clocks t) 0) (fresh t 0) = begun-fits t est (length r) h whole in
       let more : List ℕ = drop recordLength r in
       let bytes : List ℕ = recordBytes waiting 0 est (replicate (clocks t) 0) (replicate (clocks t) 0) (fresh t 0) in

@@ -16,7 +16,7 @@ use Rattle.meaning.specs.Tree.{Part, children, size}
 use Rattle.meaning.specs.Program.{parts, variables, clocks}
 use Rattle.meaning.specs.Table.{endAt, parentAt, nextAt, insideOf, isTable}
 use Rattle.meaning.proofs.Trees.{All, part-ind, size-law}
-use Rattle.meaning.proofs.Tables.{table-held, inside as within}
+use Rattle.meaning.proofs.Tables.{table-held, inside as within, root-end}
 use Rattle.agreement.proofs.Shapes.{size-inner}
 use Rattle.agreement.proofs.Lies.{Lies, LieIn, own-row, inside, first-lies, others-lie, root-lies}
 
@@ -91,19 +91,13 @@ module _ (t : List ℕ) (table : isTable t ≡ true) where
       let x = table-held t table in
       (x .0, x .1 .parts-are, subst (λ s. Lies s (x .0) 0 noPart noPart) (sym (x .2)) (root-lies (variables t) (clocks t) (x .0) (x .1 .within)))
 
-  -- there is a root, it ends where the table does, and it has no next
-  pub root-there : 0 < parts t
-  root-there = omega (arith, root .1, size-law (root .0))
-
-  pub root-end : endAt t 0 ≡ parts t
-  root-end = omega (arith, own-row (root .2) .end-is, root .1)
-
+  -- the root has no next
   pub root-next : nextAt t 0 ≡ noPart
   root-next = own-row (root .2) .next-is
 
   -- every other part stands inside the root
   pub inside-root : (p : ℕ) → 0 < p → p < parts t → Inside t 0 p
-  inside-root p a b = (a, omega (arith, root-end))
+  inside-root p a b = (a, omega (arith, root-end t table))
 
   -- a part lies at each number below the number of parts
   pub at : (q : ℕ) → q < parts t → At t q

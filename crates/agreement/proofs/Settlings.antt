@@ -20,7 +20,8 @@ use Rattle.meaning.specs.Record.{isMark}
 use Rattle.meaning.specs.declared.Fate.{Fate}
 use Rattle.meaning.specs.declared.Fate.the-variants.{Stays, Ends, First, Second}
 use Rattle.meaning.specs.Cycle.{endsIf, fate, fresh, applied, settledPart, settledFrom, rootEnded}
-use Rattle.agreement.proofs.Nesting.{lower, root-there, root-next}
+use Rattle.meaning.proofs.Tables.{root-there}
+use Rattle.agreement.proofs.Nesting.{lower, root-next}
 use Rattle.agreement.proofs.Followers.{choice-branches}
 
 -- For marks ms before a settling: part p is marked

@@ -2,12 +2,12 @@
 use Prim.Native.Nat.{ℕ, zero, suc, _+_, _-_, _<_, _≤_}
 use mathlib.Core.Path.{_≡_, refl, sym, ap, _∙_}
 use mathlib.Core.Logic.{_⊎_, inl, inr}
-use mathlib.Core.List.{List, [], _∷_, _++_, map, append-assoc}
+use mathlib.Core.List.{List, [], _∷_, _++_, map, append-assoc, append-nil}
 use native.Mathlib.Nat.{zero-add, add-zero, add-suc, suc-add}
 use native.Mathlib.Numerals.{add-one}
 use native.Mathlib.Omega.{arith}
 use lib.ListN.{length, getD, take, drop, set, replicate, length-append, length-set, List·getD-map}
-use lib.Seq.{sets, drop-cons, sets-eq, length-take-le, drop-at, getD-set-same, getD-set-other, drop-set-lt, set-comm, drop-drop, drop-append-seam, drop-append-add, getD-drop}
+use lib.Seq.{sets, drop-cons, sets-eq, length-take-le, drop-at, getD-set-same, getD-set-other, drop-set-lt, set-comm, set-set, drop-drop, drop-append-seam, drop-append-add, getD-drop}
 use Rattle.base.specs.Lists.{sum, join, bytesAt}
 
 -- a run of stores, and then one that begins where it ends
@@ -15,14 +15,29 @@ pub sets-append : (l : List ℕ) (i j : ℕ) (xs ys : List ℕ) → i + length x
 sets-append l i j [] ys e = let k : j ≡ i = omega arith in rw k
 sets-append l i j (x ∷ xs) ys e = sets-append (set l i x) (suc i) j xs ys (omega arith)
 
-set-before : (l : List ℕ) (i j x : ℕ) (ys : List ℕ) → i < j → set (sets l j ys) i x ≡ sets (set l i x) j ys
+-- a store, and a run of stores, that come before a run that they do not meet, or after it
+pub set-before : (l : List ℕ) (i j x : ℕ) (ys : List ℕ) → i < j → set (sets l j ys) i x ≡ sets (set l i x) j ys
 set-before l i j x [] h = refl
 set-before l i j x (y ∷ ys) h = set-before (set l j y) i (suc j) x ys (omega arith) ∙ rw (set-comm l i j x y (omega arith))
+
+pub sets-swap : (l : List ℕ) (i j : ℕ) (xs ys : List ℕ) → i + length xs ≤ j → sets (sets l j ys) i xs ≡ sets (sets l i xs) j ys
+sets-swap l i j [] ys h = refl
+sets-swap l i j (x ∷ xs) ys h = rw (set-before l i j x ys (omega arith)) (sets-swap (set l i x) (suc i) j xs ys (omega arith))
 
 -- a run of stores, and then one that ends where it begins
 pub sets-before : (l : List ℕ) (i j : ℕ) (xs ys : List ℕ) → i + length xs ≡ j → sets (sets l j ys) i xs ≡ sets l i (xs ++ ys)
 sets-before l i j [] ys e = let k : j ≡ i = omega arith in rw k
 sets-before l i j (x ∷ xs) ys e = rw (set-before l i j x ys (omega arith)) (sets-before (set l i x) (suc i) j xs ys (omega arith))
+
+-- a run of stores inside an earlier one
+set-inside : (l : List ℕ) (i k y : ℕ) (xs : List ℕ) → k < length xs → set (sets l i xs) (i + k) y ≡ sets l i (set xs k y)
+set-inside l i k y [] h = absurd (omega arith)
+set-inside l i zero y (x ∷ xs) h = rw add-zero (set-before (set l i x) i (suc i) y xs (omega arith) ∙ rw (set-set l i x y))
+set-inside l i (suc k) y (x ∷ xs) h = rw (add-suc, ← suc-add) (set-inside (set l i x) (suc i) k y xs (omega arith))
+
+pub sets-inside : (l : List ℕ) (i k : ℕ) (xs ys : List ℕ) → k + length ys ≤ length xs → sets (sets l i xs) (i + k) ys ≡ sets l i (sets xs k ys)
+sets-inside l i k xs [] h = refl
+sets-inside l i k xs (y ∷ ys) h = rw (set-inside l i k y xs (omega arith), ← add-suc) (sets-inside l i (suc k) (set xs k y) ys (rw length-set (omega arith)))
 
 pub sets-three : (l : List ℕ) (i j k : ℕ) (xs ys zs : List ℕ) → i + length xs ≡ j → j + length ys ≡ k → sets (sets (sets l i xs) j ys) k zs ≡ sets l i (xs ++ (ys ++ zs))
 sets-three l i j k xs ys zs e d = sets-append (sets l i xs) j k ys zs d ∙ sets-append l i j xs (ys ++ zs) e
@@ -46,6 +61,9 @@ bytes-front s (x ∷ xs) ys k e =
     let h : getD s k 0 ≡ x = ap (λ (i : ℕ). getD s i 0) (sym (add-zero k)) ∙ sym (getD-drop k s 0 0) ∙ rw e in
     let t : drop (suc k) s ≡ xs ++ ys = ap (λ (i : ℕ). drop i s) (sym (add-one k)) ∙ drop-front s (x ∷ []) (xs ++ ys) k e in
     rw (h, bytes-front s xs ys (suc k) t)
+
+pub bytes-all : (s : List ℕ) → bytesAt s 0 (length s) ≡ s
+bytes-all s = bytes-front s s [] 0 (sym (append-nil s))
 
 pub drop-bytes : (s : List ℕ) (k n : ℕ) → k + n ≤ length s → drop k s ≡ bytesAt s k n ++ drop (k + n) s
 drop-bytes s k zero h = rw add-zero

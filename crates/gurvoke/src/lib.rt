@@ -1,12 +1,17 @@
 // The C interface: the exported functions alone, each a call of the crate that does the work.
 // include/gurvoke.h documents them.
+use begin::begin;
 use meaning::answer_number;
+use meaning::offer_number;
+use meaning::settle_number;
+use offer::offer;
+use settle::settle;
 use table::compile;
 use table::decompile;
 ghost use mathlib.Core.Path.{_≡_};
 ghost use lib.ListN.{length};
 ghost use Rattle.meaning.specs.Table.{writeRefusal, writtenInto};
-ghost use Rattle.meaning.specs.Operations.{Read};
+ghost use Rattle.meaning.specs.Operations.{Read, Begun, Offered, Settled};
 
 #[no_mangle]
 pub extern "C" fn gurvoke_compile(file: &[u8], table: &mut [u8]) -> u32
@@ -21,4 +26,25 @@ pub extern "C" fn gurvoke_decompile(table: &[u8], file: &mut [u8]) -> u32
     ensures { λ _. ⌜ now (file .exit) ≡ writtenInto (now (table .entry)) (now (file .entry)) ⌝ }
 {
     answer_number(decompile(table, file))
+}
+
+#[no_mangle]
+pub extern "C" fn gurvoke_begin(table: &[u8], estimate: &[u8], run: &mut [u8]) -> u32
+    ensures { λ a. ⌜ Begun (now (table .entry)) (now (estimate .entry)) (now (run .entry)) a (now (run .exit)) ⌝ }
+{
+    answer_number(begin(table, estimate, run))
+}
+
+#[no_mangle]
+pub extern "C" fn gurvoke_offer(table: &[u8], run: &mut [u8], time: u32, goals: &mut [u8]) -> u32
+    ensures { λ a. ⌜ Offered (now (table .entry)) (now (run .entry)) time (now (goals .entry)) a (now (run .exit)) (now (goals .exit)) ⌝ }
+{
+    offer_number(offer(table, run, time, goals))
+}
+
+#[no_mangle]
+pub extern "C" fn gurvoke_settle(table: &[u8], run: &mut [u8], estimate: &[u8]) -> u32
+    ensures { λ a. ⌜ Settled (now (table .entry)) (now (run .entry)) (now (estimate .entry)) a (now (run .exit)) ⌝ }
+{
+    settle_number(settle(table, run, estimate))
 }

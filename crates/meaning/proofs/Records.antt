@@ -21,7 +21,7 @@ use Rattle.meaning.specs.declared.Fate.{Fate}
 use Rattle.meaning.specs.declared.Fate.the-variants.{Stays, Ends, First, Second}
 use Rattle.meaning.specs.Cycle.{applied, begins, freshFrom, fresh, breaks, checkedFrom, checkedMarks, offeredRecord, leavesFrom, settledFrom, settledMarks, rootEnded, startsClock, clockFlags, clockStarts, settledRecord, estimateAllowed, freshRecord, beginRefusal, begunInto}
 use Rattle.meaning.specs.Record.{timePlace, estimatePlace, startedPlace, startsPlace, marksPlace, recordLength, timeAt, phaseOf, lastTime, estimateIn, startedIn, startsIn, marksIn, recordBytes, isMark, isZero, restZero, valuesAllowed, clockAllowed, clocksAllowed, rootAllowed, partsAllowed, recordAllowed, waiting, offered, finished}
-use Rattle.meaning.proofs.Tables.{table-held}
+use Rattle.meaning.proofs.Tables.{table-held, root-there, root-end}
 
 -- Numbers: a number is read back from as many bytes as hold it
 pub value-back : (w x : ℕ) → x < 256 ^ suc w → valueFrom (x % 256) (littleEndian w (x / 256)) ≡ x
@@ -188,6 +188,10 @@ length-fresh-from t p (suc n) (suc skip) = ap suc (length-fresh-from t (suc p) n
 pub length-fresh : (t : List ℕ) (q : ℕ) → length (fresh t q) ≡ suc (insideOf t q)
 unfolding fresh
 length-fresh t q = ap suc (length-fresh-from t (suc q) (insideOf t q) 0)
+
+-- the root's are the marks of all parts
+pub length-root : (t : List ℕ) → isTable t ≡ true → length (fresh t 0) ≡ parts t
+length-root t table = omega (arith, length-fresh t 0, root-there t table, root-end t table)
 
 pub length-checked : (t : List ℕ) (s : Situation) (p : ℕ) (ms : List ℕ) (skip : ℕ) → length (checkedFrom t s p ms skip) ≡ length ms
 unfolding checkedFrom

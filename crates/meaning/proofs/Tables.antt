@@ -17,11 +17,12 @@ use Rattle.meaning.specs.declared.Entry.{Entry}
 use Rattle.meaning.specs.declared.Form.{Form}
 use Rattle.meaning.specs.declared.Form.the-variants.{File, Table}
 use Rattle.meaning.specs.Sizes.{numberWidth, noPart, headerLength, linksLength, rowLength, operandPlace, numberAt}
-use Rattle.meaning.specs.Kinds.{Kind, UNKNOWN, GOAL, START, WAIT, SEQ, PAR, MAINTAIN, CHOICE, REPEAT, numberOf}
-use Rattle.meaning.specs.Tree.{Part, kind, children, operand, size, counted}
+use Rattle.meaning.specs.Kinds.{Kind, UNKNOWN, GOAL, START, WAIT, SEQ, PAR, MAINTAIN, CHOICE, REPEAT, kindOf, numberOf}
+use Rattle.meaning.specs.Tree.{Part, goal, start, wait, seq, par, maintain, choice, repeat, kind, children, operand, size, counted}
 use Rattle.meaning.specs.Program.{parts, variables, clocks, sizeBytes, entryAt, entries, preorder, treeOf, programRefusal, Within, fileOf}
-use Rattle.meaning.specs.Table.{Row, rowBytes, nextOf, siblings, block, tableOf, compiled, endAt, parentAt, nextAt, fileIn, isTable}
-use Rattle.meaning.proofs.Trees.{All, part-ind, preorder-law, rows-law, block-parts, length-preorder}
+use Rattle.meaning.specs.Table.{Row, rowBytes, nextOf, siblings, block, tableOf, compiled, endAt, parentAt, nextAt, kindAt, fileIn, isTable}
+use Rattle.meaning.proofs.Trees.{All, part-ind, preorder-law, rows-law, block-parts, length-preorder, size-law}
+use Rattle.meaning.proofs.Parsing.{kind-number}
 use Rattle.meaning.proofs.Files.{Holds, accepted, held-tree, held-accepted, past-header, entries-at, number-back, parts-back, file-accepted, held-file}
 
 -- what a row holds of its part's entry
@@ -179,12 +180,17 @@ record Followed (m : ℕ) (r : Row) (rs : List Row) : Type 0 where
   same-parent : getD rs steps noRow .parent ≡ r .parent
   next-end : r .next ≡ r .end
 
+-- a CHOICE, numbered m, has its second child among the rows after it: its first does not end where they do
+abbrev Branched : ℕ → Row → List Row → Type 0
+Branched m r rs = kindOf (r .kind) ≡ CHOICE → (0 < length rs) × (getD rs 0 noRow .end < suc m + length rs)
+
 -- the numbers in row r, numbered m, stay among the rows
 record Linked (m : ℕ) (r : Row) (rs : List Row) : Type 0 where
   end-after : m < r .end
   end-within : r .end ≤ suc m + length rs
   parent-is : (r .parent ≡ noPart) ⊎ (r .parent < m)
   next-is : (r .next ≡ noPart) ⊎ ((r .next ≡ m) ⊎ Followed m r rs)
+  branches : Branched m r rs
 
 -- rows numbered from m on, each with the rows after it
 abbrev Links : ℕ → List Row → Type 0
@@ -203,6 +209,11 @@ module _ (m : ℕ) (r : Row) (rs more : List Row) where
         next-end = f .next-end;
       }
 
+  branched-more : Branched m r rs → Branched m r (rs ++ more)
+  branched-more f k =
+      let b = f k in
+      (rw length-append (omega arith), rw (List·getD-append rs more noRow 0 (b .0), length-append) (omega (arith, b .1)))
+
   linked-more : Linked m r rs → Linked m r (rs ++ more)
   linked-more l =
       record {
@@ -210,6 +221,7 @@ module _ (m : ℕ) (r : Row) (rs more : List Row) where
         end-within = rw length-append (omega arith);
         parent-is = l .parent-is;
         next-is = ⊎-map (λ e. e) (⊎-map (λ e. e) followed-more) (l .next-is);
+        branches = branched-more (l .branches);
       }
 
 -- rows that follow rows
@@ -238,6 +250,25 @@ innerRows p n = siblings (kind p) n (suc n) (map block (children p))
 length-inner : (p : Part) (n : ℕ) → suc (length (innerRows p n)) ≡ size p
 length-inner p n = rw (rows-law p n 0 0) at (length-rows p n 0 0)
 
+-- the rows inside a CHOICE are those of its two children
+inner-branches : (p : Part) (n : ℕ) → kind p ≡ CHOICE → (0 < length (innerRows p n)) × (getD (innerRows p n) 0 noRow .end < suc n + length (innerRows p n))
+unfolding numberOf
+inner-branches (goal o) n e = absurd (omega (arith, ap numberOf e))
+inner-branches (start o) n e = absurd (omega (arith, ap numberOf e))
+inner-branches (wait o) n e = absurd (omega (arith, ap numberOf e))
+inner-branches (seq ps) n e = absurd (omega (arith, ap numberOf e))
+inner-branches (par ps) n e = absurd (omega (arith, ap numberOf e))
+inner-branches (maintain o p) n e = absurd (omega (arith, ap numberOf e))
+inner-branches (choice o p q) n e = (
+  rw (rows-law p (suc n) n) (omega arith),
+  rw (block-parts p, rows-law p (suc n) n, length-append, length-append, length-rows q) (omega (arith, length-inner p (suc n), length-inner q n)),
+)
+inner-branches (repeat p) n e = absurd (omega (arith, ap numberOf e))
+
+-- the row of part p, at number n, before the rows inside it
+row-branches : (p : Part) (n q x : ℕ) → Branched n (record { kind = numberOf (kind p); end = n + size p; parent = q; next = x; operand = operand p }) (innerRows p n)
+row-branches p n q x e = inner-branches p n (sym (kind-number p) ∙ e)
+
 module _ (k : Kind) (q n : ℕ) (p : Part) where
   childRow : List Part → Row
   childRow ps = record { kind = numberOf (kind p); end = n + size p; parent = q; next = nextOf k n (n + size p) (nonempty (map block ps)); operand = operand p }
@@ -265,6 +296,7 @@ module _ (k : Kind) (q n : ℕ) (p : Part) where
         end-within = rw length-append (omega (arith, length-inner p n));
         parent-is = inr l;
         next-is = ⊎-map (λ e. e) (⊎-map (λ e. e) (λ e. child-followed ps (e .0) (e .1))) (next-cases k n (n + size p) (nonempty (map block ps)));
+        branches = branched-more n (childRow ps) (innerRows p n) (siblings k q (n + size p) (map block ps)) (row-branches p n q (childRow ps .next));
       }
 
 InnerLinks : Part → Type 0
@@ -287,7 +319,7 @@ rows-links : (p : Part) → Links 0 (treeRows p)
 unfolding InnerLinks
 rows-links p =
     rw (rows-law p 0 noPart noPart)
-    (record { end-after = omega (arith, length-inner p 0); end-within = omega (arith, length-inner p 0); parent-is = inl refl; next-is = inl refl }, inner-links p 0)
+    (record { end-after = omega (arith, length-inner p 0); end-within = omega (arith, length-inner p 0); parent-is = inl refl; next-is = inl refl; branches = row-branches p 0 noPart noPart }, inner-links p 0)
 
 links-at : (rs : List Row) (m i : ℕ) → Links m rs → i < length rs → Linked (m + i) (getD rs i noRow) (drop (suc i) rs)
 links-at [] m i h l = absurd (not-suc-le-zero l)
@@ -368,8 +400,39 @@ module _ (v k : ℕ) (p : Part) (w : Within v k p) where
         next-is = ⊎-map (λ e. next-at i l ∙ e) (⊎-map (λ e. next-at i l ∙ e) (later-at i l)) (a .next-is);
       }
 
+  choice-tree : (i : ℕ) → i < size p → kindAt (tableOf v k p) i ≡ CHOICE → (suc i < parts (tableOf v k p)) × (endAt (tableOf v k p) (suc i) < parts (tableOf v k p))
+  unfolding tableOf
+  choice-tree i l e =
+      let r : entryAt Table (tableOf v k p) i ≡ rowEntry (rowAt p i) = row-entry (sizeBytes (size p) v k) (treeRows p) refl i (rw length-rows l) in
+      let b = row-linked p i l .branches (sym (ap (λ (x : Entry). kindOf (x .kind)) r) ∙ e) in
+      let m : suc i < size p = omega (arith, rows-after p i, b .0) in
+      let f : rowAt p (suc i) .end < suc i + (size p - suc i) = rw (getD-drop, add-zero, rows-after p i) at (b .1) in
+      (omega (arith, table-parts v k p w), omega (arith, table-parts v k p w, end-at (suc i) m))
+
 -- the numbers in each row of a table stay inside it
 pub inside : (t : List ℕ) → isTable t ≡ true → (p : ℕ) → p < parts t → Inside t p
 inside t h p l =
     let x = table-tree t h in
     subst (λ s. p < parts s → Inside s p) (sym (x .2)) (λ m. inside-tree (variables t) (clocks t) (x .0) (x .1) p (rw (table-parts (variables t) (clocks t) (x .0) (x .1)) at m)) l
+
+-- there is a root, and it ends where the table does
+module _ (t : List ℕ) (table : isTable t ≡ true) where
+  pub root-there : 0 < parts t
+  root-there =
+      let x = table-held t table in
+      omega (arith, x .1 .parts-are, size-law (x .0))
+
+  pub root-end : endAt t 0 ≡ parts t
+  root-end =
+      let x = table-tree t table in
+      let p : Part = x .0 in
+      let v : ℕ = variables t in
+      let k : ℕ = clocks t in
+      let own : rowAt p 0 .end ≡ 0 + size p = rw (rows-law p 0 noPart noPart) in
+      subst (λ s. endAt s 0 ≡ parts s) (sym (x .2)) (end-at v k p (x .1) 0 (omega (arith, size-law p)) ∙ own ∙ omega (arith, table-parts v k p (x .1)))
+
+-- a CHOICE has its two children inside the table
+pub choice-inside : (t : List ℕ) → isTable t ≡ true → (p : ℕ) → p < parts t → kindAt t p ≡ CHOICE → (suc p < parts t) × (endAt t (suc p) < parts t)
+choice-inside t h p l e =
+    let x = table-tree t h in
+    subst (λ s. p < parts s → kindAt s p ≡ CHOICE → (suc p < parts s) × (endAt s (suc p) < parts s)) (sym (x .2)) (λ m. choice-tree (variables t) (clocks t) (x .0) (x .1) p (rw (table-parts (variables t) (clocks t) (x .0) (x .1)) at m)) l e

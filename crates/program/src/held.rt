@@ -17,7 +17,7 @@ ghost use Prim.Native.Nat.{_+_, _*_, _<_};
 ghost use lib.ListN.{getD};
 ghost use Rattle.meaning.specs.Sizes.{headerLength, rowLength, numberAt, lengthOf, kindPlace, operandPlace};
 ghost use Rattle.meaning.specs.Program.{parts, variables, clocks, sizesAllowed, operandAt, entryAt};
-ghost use Rattle.meaning.specs.Table.{endAt, parentAt, nextAt};
+ghost use Rattle.meaning.specs.Table.{endAt, parentAt, nextAt, insideOf};
 
 // The number that stands at place i.
 pub fn number_at(s: &[u8], i: usize) -> Number
@@ -132,4 +132,12 @@ pub fn next_at(t: &[u8], p: Number) -> Number
     ensures { λ r. ⌜ r ≡ nextAt (now (t .entry)) p ⌝ }
 {
     link_at(t, p, 3)
+}
+
+// How many parts stand inside part p.
+pub fn inside_of(t: &[u8], p: Number) -> Number
+    ensures { λ n. ⌜ n ≡ insideOf (now (t .entry)) p ⌝ }
+{
+    let e = end_at(t, p);
+    if p < e { e - p - 1 } else { 0 }
 }

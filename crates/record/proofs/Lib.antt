@@ -1,4 +1,4 @@
-pub mod Times
+pub mod TimeBytes
 pub mod Judging
 pub mod Places
 pub mod Markings

@@ -7,14 +7,15 @@ use native.Mathlib.Nat.{zero-add, sub-zero}
 use native.Mathlib.Numerals.{add-one}
 use native.Mathlib.Omega.{arith}
 use lib.Dec.{eqb, leb}
-use lib.ListN.{getD}
+use lib.ListN.{length, getD}
 use borrow.Author.Tests.{not-true, not-false, leb-true, le-leb, eqb-true, eq-eqb}
 use Rattle.base.specs.Lists.{all, bytesAt, tabulate}
 use Rattle.base.proofs.Lists.{both-true, getD-tabulate}
-use Rattle.base.proofs.Stores.{getD-bytes}
+use Rattle.base.proofs.Stores.{getD-bytes, bytes-all}
 use Rattle.meaning.specs.Sizes.{timeWidth, maxVariables, maxClocks, maxParts, maxValue}
 use Rattle.meaning.specs.Program.{parts, variables, clocks}
 use Rattle.meaning.specs.Record.{estimatePlace, startedPlace, startsPlace, marksPlace, recordLength, timeAt, phaseOf, finished, lastTime, startedIn, startsIn, isZero, restZero, valuesAllowed, clockAllowed, clocksAllowed}
+use Rattle.meaning.specs.Cycle.{estimateAllowed}
 use Rattle.record.specs.Places.{allFrom, atMost, clockAt}
 
 -- the loop's turns
@@ -75,6 +76,16 @@ module _ (t r : List ℕ) (v k n v₁ k₁ n₁ : ℕ) (v₁-is : v₁ ≡ varia
       let y : marksPlace + n - marksPlace ≡ n = omega arith in
       let z : estimatePlace + v - estimatePlace ≡ v = omega arith in
       rw (phase-is, b-is, c-is, d-is, x, y, z, at-most-bytes r 1 startedPlace k, at-most-bytes r 1 marksPlace n, at-most-bytes r maxValue estimatePlace v, v-is, v₁-is, k-is, k₁-is, n-is, n₁-is)
+
+-- an estimate, at the number of variables that was read, as a byte and then as a number that indexes
+whole : (est : List ℕ) (n : ℕ) (b : Bool) → eqb (length est) n ≡ b → (b && all (λ x. leb x maxValue) (bytesAt est 0 n)) ≡ (b && all (λ x. leb x maxValue) est)
+whole est n true e = rw (← (eqb-true (length est) n e), bytes-all est)
+whole est n false e = refl
+
+pub estimate-made : (t est : List ℕ) (v v₁ : ℕ) (b : Bool) → v₁ ≡ variables t → v ≡ v₁ → b ≡ allFrom (atMost est maxValue) 0 (v - 0) → (eqb (length est) v && b) ≡ estimateAllowed t est
+unfolding estimateAllowed
+estimate-made t est v v₁ b v₁-is v-is b-is =
+    rw (b-is, sub-zero, at-most-bytes est maxValue 0 v, v-is, v₁-is) (whole est (variables t) (eqb (length est) (variables t)) refl)
 
 -- a clock by what its flag says
 module _ (r : List ℕ) (c start : ℕ) (b : Bool) (start-is : start ≡ timeAt r (startsPlace + timeWidth * c)) (b-is : b ≡ not (eqb (getD r (startedPlace + c) 0) 0)) where

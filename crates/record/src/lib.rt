@@ -2,6 +2,7 @@
 pub mod conditions;
 pub mod fields;
 pub mod marks;
+pub mod times;
 pub mod values;
 
 use crate::marks::parts_allowed;

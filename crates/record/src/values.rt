@@ -20,6 +20,7 @@ ghost use mathlib.Core.Path.{_≡_};
 ghost use Prim.Native.Nat.{_-_};
 ghost use Rattle.base.specs.Lists.{all, bytesAt};
 ghost use Rattle.meaning.specs.Record.{isZero, restZero, valuesAllowed, clocksAllowed};
+ghost use Rattle.meaning.specs.Cycle.{estimateAllowed};
 ghost use Rattle.record.specs.Places.{allFrom, atMost, clockAt};
 
 fn is_at_most(r: &[u8], i: usize, most: u8) -> bool
@@ -73,6 +74,14 @@ pub fn values_allowed(t: &[u8], r: &[u8]) -> bool
         & (all_at_most(r, STARTED_PLACE, STARTED_PLACE + k, 1)
             & (all_at_most(r, MARKS_PLACE, MARKS_PLACE + n, 1)
                 & all_at_most(r, ESTIMATE_PLACE, ESTIMATE_PLACE + v, MAX_VALUE as u8)))
+}
+
+// Whether the estimate has a value for each of the program's variables, and none too large (13).
+pub fn estimate_allowed(t: &[u8], est: &[u8]) -> bool
+    ensures { λ b. ⌜ b ≡ estimateAllowed (now (t .entry)) (now (est .entry)) ⌝ }
+{
+    let v = wide(variables(t));
+    (est.len() == v) & all_at_most(est, 0, v, MAX_VALUE as u8)
 }
 
 // Whether clock c's start time is not after the last time where it is started, and 0 where not.

@@ -1,56 +1,14 @@
 //! Calls of the library that are compared with the model in every byte.
 
-use std::hint::black_box;
-use std::ops::Range;
-
 use gurvoke::cases::{hex, Rng};
+use gurvoke::lent::Lent;
 use gurvoke::model;
-
-/// Guard bytes on each side of a lent buffer.
-const GUARD_LEN: usize = 24;
 
 /// What a call answers.
 pub type Answer = Result<(), u32>;
 
 /// A call of the library or of the model: input, output.
 type Call = fn(&[u8], &mut [u8]) -> Answer;
-
-/// A buffer that is lent to the library, with guard bytes on both sides.
-struct Lent {
-    bytes: Vec<u8>,
-    part: Range<usize>,
-    before_call: Vec<u8>,
-}
-
-impl Lent {
-    /// Lends `content`; the bytes that stand behind it begin with `behind`.
-    fn new(rng: &mut Rng, content: &[u8], behind: &[u8]) -> Lent {
-        let mut bytes = rng.bytes(GUARD_LEN);
-        bytes.extend(content);
-        bytes.extend(behind);
-        bytes.extend(rng.bytes(GUARD_LEN));
-        Lent {
-            part: GUARD_LEN..GUARD_LEN + content.len(),
-            before_call: bytes.clone(),
-            bytes,
-        }
-    }
-
-    fn content(&self) -> &[u8] {
-        &self.bytes[self.part.clone()]
-    }
-
-    fn content_mut(&mut self) -> &mut [u8] {
-        &mut self.bytes[self.part.clone()]
-    }
-
-    /// Whether the buffer and its guard bytes are what they were, but for `content`.
-    fn holds_only(&self, content: &[u8]) -> bool {
-        let mut expected = self.before_call.clone();
-        expected[self.part.clone()].copy_from_slice(content);
-        self.bytes == expected
-    }
-}
 
 /// Compares one call of `gurvoke_compile` with the model, and gives the answer.
 pub fn check_compile(rng: &mut Rng, file: &[u8], table_len: usize) -> Answer {
@@ -98,17 +56,14 @@ fn check_call(
     behind: &[u8],
     output_len: usize,
 ) -> Answer {
-    let mut lent_input = Lent::new(rng, input, behind);
+    let lent_input = Lent::followed(rng, input, behind);
     let filling = rng.bytes(output_len);
-    let mut lent_output = Lent::new(rng, &filling, &[]);
+    let mut lent_output = Lent::new(rng, &filling);
 
-    let mut expected = filling.clone();
+    let mut expected = filling;
     let wanted = (operation.model)(input, &mut expected);
     let answer = (operation.library)(lent_input.content(), lent_output.content_mut());
 
-    // The compiler must not take for granted what it cannot see the library do.
-    let lent_input = black_box(&mut lent_input);
-    let lent_output = black_box(&mut lent_output);
     let case = || {
         format!(
             "{} of {} into {output_len} bytes",
@@ -117,13 +72,14 @@ fn check_call(
         )
     };
     assert_eq!(answer, wanted, "{}: answer (left: library)", case());
-    assert!(lent_input.holds_only(input), "{}: input changed", case());
+    assert!(lent_input.is_as_expected(), "{}: input changed", case());
     if answer.is_err() {
-        let untouched = lent_output.holds_only(&filling);
+        let untouched = lent_output.is_as_expected();
         assert!(untouched, "{}: refused, but output changed", case());
     }
+    lent_output.expect(&expected);
     assert!(
-        lent_output.holds_only(&expected),
+        lent_output.is_as_expected(),
         "{}: output is {} and should be {}, or a byte beside it changed",
         case(),
         hex(lent_output.content()),

@@ -1,6 +1,6 @@
 -- `time_at` meets its contract: a time is made of its four bytes, the low one first.
 use borrow.Author.Needs.{needs}
-use Rattle.record.proofs.Times.{time-made}
+use Rattle.record.proofs.TimeBytes.{time-made}
 use Rattle.record.proofs.fields.time_at.Statement.{statement}
 use Rattle.record.proofs.fields.time_at.Tie as tie
 

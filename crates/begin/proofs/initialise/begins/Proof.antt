@@ -1,0 +1,20 @@
+-- `begins` meets its contract: the kind of the part around p decides.
+use borrow.Author.Needs.{needs}
+use Rattle.begin.proofs.Turns.{begins-made}
+use Rattle.begin.proofs.initialise.begins.Statement.{statement}
+use Rattle.begin.proofs.initialise.begins.Tie as tie
+
+parent-at-requires : tie.Need-parent-at-requires
+parent-at-requires c κs = search needs
+
+entry-at-requires : tie.Need-entry-at-requires
+entry-at-requires c κs = search needs
+
+begins-in-requires : tie.Need-begins-in-requires
+begins-in-requires c κs = search needs
+
+returns : tie.Need-returns
+returns c = search begins-made
+
+pub begins-spec : {M : Type 1} → statement M
+begins-spec = tie.close (tie.spec parent-at-requires entry-at-requires begins-in-requires returns)

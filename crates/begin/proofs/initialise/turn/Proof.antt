@@ -1,0 +1,66 @@
+-- `turn` meets its contract: one law for each way that a part's turn goes.
+use Rattle.begin.proofs.Turns.{turn-passed, turn-begins, turn-idle}
+use borrow.Author.Needs.{needs}
+use Rattle.begin.proofs.initialise.turn.Statement.{statement}
+use Rattle.begin.proofs.initialise.turn.Tie as tie
+
+wide-requires : tie.Need-wide-requires
+wide-requires c κs = search needs
+
+add-i : tie.Need-add-i
+add-i c = search needs
+
+put-requires : tie.Need-put-requires
+put-requires c κs = search needs
+
+sub-result : tie.Need-sub-result
+sub-result c = search needs
+
+same-length : tie.Need-same-length
+same-length c = search needs
+
+returns : tie.Need-returns
+returns c = search turn-passed
+
+begins-requires : tie.Need-begins-requires
+begins-requires c κs = search needs
+
+put-requires-2 : tie.Need-put-requires-2
+put-requires-2 c κs = search needs
+
+same-length-2 : tie.Need-same-length-2
+same-length-2 c = search needs
+
+returns-2 : tie.Need-returns-2
+returns-2 c = search turn-begins
+
+put-requires-3 : tie.Need-put-requires-3
+put-requires-3 c κs = search needs
+
+inside-of-requires : tie.Need-inside-of-requires
+inside-of-requires c κs = search needs
+
+same-length-3 : tie.Need-same-length-3
+same-length-3 c = search needs
+
+returns-3 : tie.Need-returns-3
+returns-3 c = search turn-idle
+
+pub turn-spec : {M : Type 1} → statement M
+turn-spec =
+    tie.close
+    (tie.spec
+    wide-requires
+    add-i
+    put-requires
+    sub-result
+    same-length
+    returns
+    begins-requires
+    put-requires-2
+    same-length-2
+    returns-2
+    put-requires-3
+    inside-of-requires
+    same-length-3
+    returns-3)

@@ -1,0 +1,4 @@
+pub mod Checking
+pub mod Raising
+pub mod Names
+pub mod Offering

@@ -1,0 +1,25 @@
+-- What one pass over the marks keeps to see whether something is left that can end or decide: the end of the CHOICE that it met last, as long as it has met no marked part since, and 0 otherwise.
+use Prim.Native.Nat.{ℕ, _-_}
+use mathlib.Core.Bool.{Bool, cond, not, _&&_, _||_}
+use mathlib.Core.List.{List}
+use lib.Dec.{eqb, leb}
+use lib.ListN.{take}
+use Rattle.base.specs.Lists.{any}
+use Rattle.meaning.specs.declared.Form.the-variants.{Table}
+use Rattle.meaning.specs.Kinds.{CHOICE}
+use Rattle.meaning.specs.Program.{entryAt}
+use Rattle.meaning.specs.Table.{endAt}
+use Rattle.meaning.specs.Record.{isMark}
+use Rattle.meaning.specs.Cycle.{isKind, isLeaf, worksFrom}
+
+-- what is kept after part p, marked m
+unfoldable pub pendingAfter : List ℕ → ℕ → ℕ → ℕ → ℕ
+pendingAfter t p m pending = cond (isMark m) (cond (isKind CHOICE (entryAt Table t p)) (endAt t p) 0) pending
+
+-- a marked part shows that something is left where it is a leaf, or where it is the first beyond a CHOICE with nothing marked inside
+unfoldable pub shows : List ℕ → ℕ → ℕ → ℕ → Bool
+shows t p m pending = isMark m && (isLeaf (entryAt Table t p) || (not (eqb pending 0) && leb pending p))
+
+-- whether something is left, in that CHOICE or from part p on
+unfoldable pub worksWith : List ℕ → ℕ → ℕ → List ℕ → Bool
+worksWith t pending p ms = (not (eqb pending 0) && not (any isMark (take (pending - p) ms))) || worksFrom t p ms

@@ -1,0 +1,5 @@
+pub mod Lowest
+pub mod Settling
+pub mod Starting
+pub mod Deciding
+pub mod Answering

@@ -1,0 +1,201 @@
+//! All runs of all programs of some small sets.
+
+use gurvoke::builder::{
+    at_least, below, choice, differs, equals, file, goal, maintain, par, repeat, seq, start, wait,
+};
+use gurvoke::cases::Rng;
+use gurvoke::executive::{Executive, ALL};
+use gurvoke::model::{Condition, Part};
+use gurvoke::record::RECORD_LEN;
+use gurvoke::runs::Call;
+use gurvoke::unfolding::{Phase, Program, Run};
+
+use crate::harness::{Board, Tally};
+
+/// One variable with values 0 and 1, one clock with the limit 1.
+fn conditions() -> [Condition; 4] {
+    [equals(0, 1), differs(0, 1), at_least(0, 1), below(0, 1)]
+}
+
+fn leaves() -> Vec<Part> {
+    let waits = [equals(0, 1), at_least(0, 1), below(0, 1)].map(wait);
+    let mut leaves = vec![goal(0, 0), goal(0, 1), start(0)];
+    leaves.extend(waits);
+    leaves
+}
+
+/// Every part above this one child.
+fn above_one(child: &Part) -> Vec<Part> {
+    let child = || child.clone();
+    let mut parts = vec![seq(vec![child()]), par(vec![child()]), repeat(child())];
+    parts.extend(conditions().map(|condition| maintain(condition, child())));
+    parts
+}
+
+/// Every part above these two children.
+fn above_two(first: &Part, second: &Part) -> Vec<Part> {
+    let pair = || vec![first.clone(), second.clone()];
+    let mut parts = vec![seq(pair()), par(pair())];
+    parts.extend(conditions().map(|condition| choice(condition, first.clone(), second.clone())));
+    parts
+}
+
+/// Every part above these three children.
+fn above_three(children: [&Part; 3]) -> Vec<Part> {
+    let children: Vec<Part> = children.into_iter().cloned().collect();
+    vec![seq(children.clone()), par(children)]
+}
+
+/// Every program of one part, of two, of three and of four.
+fn programs() -> [Vec<Part>; 4] {
+    let ones = leaves();
+    let twos: Vec<Part> = ones.iter().flat_map(above_one).collect();
+    let mut threes: Vec<Part> = twos.iter().flat_map(above_one).collect();
+    let mut fours = Vec::new();
+    for first in &ones {
+        for second in &ones {
+            threes.extend(above_two(first, second));
+            for third in &ones {
+                fours.extend(above_three([first, second, third]));
+            }
+        }
+        for second in &twos {
+            fours.extend(above_two(first, second));
+            fours.extend(above_two(second, first));
+        }
+    }
+    fours.extend(threes.iter().flat_map(above_one));
+    [ones, twos, threes, fours]
+}
+
+fn offer(time: u32) -> Call {
+    Call::Offer { time, room: 1 }
+}
+
+fn settle(value: u8) -> Call {
+    let estimate = vec![value];
+    Call::Settle { estimate }
+}
+
+/// The first executive gets every program, each other one in ten.
+fn shares(programs: &[Part]) -> Vec<(&'static Executive, Vec<Part>)> {
+    let share = |(place, &executive): (usize, &&'static Executive)| {
+        let step = if place == 0 { 1 } else { 10 };
+        (executive, programs.iter().step_by(step).cloned().collect())
+    };
+    ALL.iter().enumerate().map(share).collect()
+}
+
+/// Begins each program with each estimate, and hands board and run over.
+fn begin_all(
+    executive: &'static Executive,
+    programs: &[Part],
+    mut explore: impl FnMut(&mut Rng, Board, Run),
+) {
+    let mut rng = Rng::new(400);
+    for root in programs {
+        let file = file(1, 1, root);
+        let program = Program::read(&file).expect("a valid program");
+        for first in 0..=1 {
+            let mut board = Board::new(&mut rng, executive, &file, RECORD_LEN);
+            let begun = board.begin(&mut rng, &program, &[first]);
+            explore(&mut rng, board, begun.expect("an allowed estimate"));
+        }
+    }
+}
+
+/// Makes every list of up to `left` calls. Lists with the same front share its calls.
+fn every_list(
+    rng: &mut Rng,
+    tally: &mut Tally,
+    (board, run): (&Board, &Run),
+    calls: &[Call],
+    left: usize,
+) {
+    if left == 0 {
+        return;
+    }
+    for call in calls {
+        let mut board = board.clone();
+        let mut run = run.clone();
+        tally.note(&board.call(rng, &mut run, call));
+        every_list(rng, tally, (&board, &run), calls, left - 1);
+    }
+}
+
+/// Every list of up to four calls, refused ones among them, for every program of up to three parts.
+#[test]
+fn every_list_of_four_calls() {
+    let calls = [
+        offer(0),
+        offer(1),
+        offer(2),
+        settle(0),
+        settle(1),
+        settle(251),
+    ];
+    let [ones, twos, threes, _] = programs();
+    let programs = [ones, twos, threes].concat();
+    assert_eq!(programs.len(), 6 + 7 * 6 + 7 * 7 * 6 + 6 * 6 * 6);
+    for (executive, programs) in shares(&programs) {
+        let mut tally = Tally::default();
+        begin_all(executive, &programs, |rng, board, run| {
+            every_list(rng, &mut tally, (&board, &run), &calls, 4)
+        });
+        let often = [11, 12, 13, 14].map(|refusal| (refusal, 1000));
+        tally.require(executive.name, &often);
+        // Each list that is not empty ends with a call of its own.
+        let lists = 6 + 6 * 6 + 6 * 6 * 6 + 6 * 6 * 6 * 6;
+        assert_eq!(tally.calls(), 2 * lists * programs.len() as u64);
+    }
+}
+
+/// Makes every list of up to `cycles` cycles with no refused call.
+fn every_cycle(rng: &mut Rng, tally: &mut Tally, (board, run): (&Board, &Run), cycles: usize) {
+    if cycles == 0 || run.phase == Phase::Finished {
+        return;
+    }
+    for time in run.time..=2 {
+        let mut board = board.clone();
+        let mut run = run.clone();
+        tally.note(&board.call(rng, &mut run, &offer(time)));
+        for value in 0..=1 {
+            let mut board = board.clone();
+            let mut run = run.clone();
+            tally.note(&board.call(rng, &mut run, &settle(value)));
+            every_cycle(rng, tally, (&board, &run), cycles - 1);
+        }
+    }
+}
+
+/// Every list of up to five cycles for every program of up to three parts.
+#[test]
+fn every_list_of_five_cycles() {
+    let [ones, twos, threes, _] = programs();
+    check_cycles(&[ones, twos, threes].concat(), 5, 700_000);
+}
+
+/// Every list of up to three cycles for every program of four parts.
+#[test]
+fn every_list_of_three_cycles() {
+    let [_, _, threes, fours] = programs();
+    let pairs = 6 * 7 * 6;
+    assert_eq!(
+        fours.len(),
+        7 * threes.len() + 6 * 2 * pairs + 2 * 6 * 6 * 6
+    );
+    check_cycles(&fours, 3, 1_400_000);
+}
+
+fn check_cycles(programs: &[Part], cycles: usize, least: u64) {
+    for (place, (executive, share)) in shares(programs).into_iter().enumerate() {
+        let mut tally = Tally::default();
+        begin_all(executive, &share, |rng, board, run| {
+            every_cycle(rng, &mut tally, (&board, &run), cycles)
+        });
+        tally.require(executive.name, &[]);
+        assert_eq!(tally.calls(), tally.offers + tally.running + tally.finished);
+        assert!(tally.running > 0 && tally.finished > 0);
+        assert!(place > 0 || tally.calls() >= least);
+    }
+}

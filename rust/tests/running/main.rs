@@ -1,0 +1,9 @@
+//! Beginning, offering and settling: every executive against the paper and the unfolding.
+
+mod exhaustive;
+mod harness;
+mod mars_entry;
+mod random;
+mod records;
+mod stations;
+mod tables;
