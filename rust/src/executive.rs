@@ -14,7 +14,6 @@ pub struct Executive {
 }
 
 /// The library.
-#[cfg(feature = "running")]
 pub static LIBRARY: Executive = Executive {
     name: "library",
     begin: crate::begin,
@@ -32,7 +31,6 @@ pub static REFERENCE: Executive = Executive {
 
 /// All executives, the one that matters most first.
 pub static ALL: &[&Executive] = &[
-    #[cfg(feature = "running")]
     &LIBRARY,
     &REFERENCE,
 ];

@@ -19,7 +19,6 @@ extern "C" {
         -> u32;
 }
 
-#[cfg(feature = "running")]
 extern "C" {
     fn gurvoke_begin(
         table: *const u8,
@@ -69,7 +68,6 @@ pub fn decompile(table: &[u8], file: &mut [u8]) -> Result<(), u32> {
 }
 
 /// Begins a run of `table` in `record`. The answer is 0, or the refusal's number.
-#[cfg(feature = "running")]
 pub fn begin(table: &[u8], estimate: &[u8], record: &mut [u8]) -> u32 {
     // SAFETY: the pointers come from slices of the given lengths, and the slices do not overlap.
     unsafe {
@@ -86,7 +84,6 @@ pub fn begin(table: &[u8], estimate: &[u8], record: &mut [u8]) -> u32 {
 
 /// Offers the goals of a cycle at this time. The answer is the refusal's number, or 256 and the
 /// contested variable that is named, which is 255 where there is none.
-#[cfg(feature = "running")]
 pub fn offer(table: &[u8], record: &mut [u8], time: u32, goals: &mut [u8]) -> u32 {
     // SAFETY: the pointers come from slices of the given lengths, and the slices do not overlap.
     unsafe {
@@ -104,7 +101,6 @@ pub fn offer(table: &[u8], record: &mut [u8], time: u32, goals: &mut [u8]) -> u3
 
 /// Settles a cycle with this estimate. The answer is the refusal's number, 256 while the run goes
 /// on, or 257 when it has finished.
-#[cfg(feature = "running")]
 pub fn settle(table: &[u8], record: &mut [u8], estimate: &[u8]) -> u32 {
     // SAFETY: the pointers come from slices of the given lengths, and the slices do not overlap.
     unsafe {
