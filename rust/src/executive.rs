@@ -30,7 +30,4 @@ pub static REFERENCE: Executive = Executive {
 };
 
 /// All executives, the one that matters most first.
-pub static ALL: &[&Executive] = &[
-    &LIBRARY,
-    &REFERENCE,
-];
+pub static ALL: &[&Executive] = &[&LIBRARY, &REFERENCE];

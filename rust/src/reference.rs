@@ -50,18 +50,10 @@ pub fn begin(table: &[u8], estimate: &[u8], record: &mut [u8]) -> u32 {
 
 /// Offers the goals of a cycle: the refusal, or 256 and the contested variable that is named.
 pub fn offer(table: &[u8], record: &mut [u8], time: u32, goals: &mut [u8]) -> u32 {
-    let Some(table) = Table::read(table) else {
-        return NOT_A_TABLE;
+    let table = match examine(table, record, WAITING) {
+        Ok(table) => table,
+        Err(refusal) => return refusal,
     };
-    if !record_allowed(record, &table) {
-        return RECORD_NOT_ALLOWED;
-    }
-    if record[PHASE] == FINISHED {
-        return RUN_FINISHED;
-    }
-    if record[PHASE] == OFFERED {
-        return OUT_OF_TURN;
-    }
     if time < time_at(record, TIME) {
         return TIME_BEFORE_LAST;
     }
@@ -77,18 +69,10 @@ pub fn offer(table: &[u8], record: &mut [u8], time: u32, goals: &mut [u8]) -> u3
 
 /// Settles a cycle: the refusal, or 256 while the run goes on and 257 when it has finished.
 pub fn settle(table: &[u8], record: &mut [u8], estimate: &[u8]) -> u32 {
-    let Some(table) = Table::read(table) else {
-        return NOT_A_TABLE;
+    let table = match examine(table, record, OFFERED) {
+        Ok(table) => table,
+        Err(refusal) => return refusal,
     };
-    if !record_allowed(record, &table) {
-        return RECORD_NOT_ALLOWED;
-    }
-    if record[PHASE] == FINISHED {
-        return RUN_FINISHED;
-    }
-    if record[PHASE] == WAITING {
-        return OUT_OF_TURN;
-    }
     if !estimate_allowed(estimate, &table) {
         return ESTIMATE_NOT_ALLOWED;
     }
@@ -106,6 +90,22 @@ pub fn settle(table: &[u8], record: &mut [u8], estimate: &[u8]) -> u32 {
     } else {
         RUNNING
     }
+}
+
+/// The table of a run that goes on and is in this phase, or the refusal: the tests that an offer and
+/// a settling begin with.
+fn examine<'a>(table: &'a [u8], record: &[u8], phase: u8) -> Result<Table<'a>, u32> {
+    let table = Table::read(table).ok_or(NOT_A_TABLE)?;
+    if !record_allowed(record, &table) {
+        return Err(RECORD_NOT_ALLOWED);
+    }
+    if record[PHASE] == FINISHED {
+        return Err(RUN_FINISHED);
+    }
+    if record[PHASE] != phase {
+        return Err(OUT_OF_TURN);
+    }
+    Ok(table)
 }
 
 /// What a condition comes to.

@@ -16,17 +16,18 @@ use Rattle.base.proofs.Stores.{bytes-sets}
 use Rattle.meaning.specs.declared.Form.the-variants.{File}
 use Rattle.meaning.specs.Sizes.{maxValue, noPart, timeWidth}
 use Rattle.meaning.specs.Tree.{Part, size}
-use Rattle.meaning.specs.Program.{variables, clocks, parts, allowedEntry, programRefusal, Within}
+use Rattle.meaning.specs.Program.{variables, clocks, parts, allowedEntry, Within}
 use Rattle.meaning.specs.Table.{tableOf, compiled, isTable}
 use Rattle.meaning.specs.Conditions.{Situation}
 use Rattle.meaning.specs.Record.{waiting, offered, finished, recordBytes, recordLength, rootAllowed, partsAllowed, recordAllowed, clockAllowed}
 use Rattle.meaning.specs.Cycle.{fresh, beginRefusal, begunInto, leavesFrom, goalBytes, rootEnded, worksFrom, estimateAllowed, offerRefusal, checkedMarks, offeredRecord, offeredGoals, offeredInto, goalsInto, settledMarks, settleRefusal, settledRecord, settledInto, clockFlags, clockStarts}
 use Rattle.meaning.proofs.Files.{accepted-file}
 use Rattle.meaning.proofs.Tables.{table-holds, table-accepted, tree-table, compiled-is}
+use Rattle.meaning.proofs.Entries.{length-goals}
 use Rattle.meaning.proofs.Records.{Fits, judged, phase-read, time-read, estimate-read, started-read, starts-read, begin-tests, begun-fits, begun-bytes, clocks-begun, estimate-fits, checked-marks, settled-marks, offered-bytes, offered-fits, settled-bytes, settled-fits, record-allowed, flags-small, clocks-settled, clock-later}
 use Rattle.agreement.specs.Unfolding.{Rest, afresh, check, working, settle}
-use Rattle.agreement.specs.Runs.{Call, offer, settling, Reply, refused, goals, running, done, reply, tableReply, tableNext, State, begin, Fed, fed, offering, settled, refusalOf, workingOf, phaseFor, treeNext, treeReply, acceptedReply, settledState, NameAlike, possible, Alike, counted, tableFinishing, treeFinishing, Timed, estimateFits, Demand3}
-use Rattle.agreement.proofs.Contested.{length-goals, names-contested}
+use Rattle.agreement.specs.Runs.{Call, offer, settling, Reply, refused, goals, running, done, tableReply, tableNext, State, begin, Fed, fed, offering, settled, refusalOf, workingOf, phaseFor, treeNext, treeReply, acceptedReply, settledState, NameAlike, possible, Alike, counted, tableFinishing, treeFinishing, Timed, estimateFits, Demand3}
+use Rattle.agreement.proofs.Contested.{names-contested}
 use Rattle.agreement.proofs.AtWork.{all-working, small-values}
 use Rattle.agreement.proofs.Shapes.{length-marks}
 use Rattle.agreement.proofs.Lies.{Lies, root-lies}

@@ -4,17 +4,18 @@ use mathlib.Core.Path.{_≡_, refl}
 use mathlib.Core.Bool.{Bool, true, false, cond, _&&_}
 use mathlib.Core.Logic.{inl, inr}
 use mathlib.Core.List.{List, [], _∷_, _++_}
-use lib.Dec.{eqb, leb, ltb}
-use borrow.Author.Tests.{eqb-true}
+use lib.Dec.{eqb, leb}
+use borrow.Author.Tests.{le-leb}
 use Rattle.base.specs.Lists.{all, flat}
 use Rattle.base.proofs.Lists.{and-left, and-right, all-append}
 use Rattle.meaning.specs.declared.Entry.{Entry}
 use Rattle.meaning.specs.Sizes.{maxValue}
-use Rattle.meaning.specs.Kinds.{GOAL, kindOf, numberOf, value, goalAllowed, operandAllowed}
+use Rattle.meaning.specs.Kinds.{GOAL, value}
 use Rattle.meaning.specs.Tree.{Part, Parts, goal, start, wait, seq, par, maintain, choice, repeat, one, more, children, listOf}
 use Rattle.meaning.specs.Program.{preorder, allowedEntry}
 use Rattle.meaning.specs.Cycle.{isKind, valuesFor}
 use Rattle.meaning.proofs.Trees.{entryOf, preorder-law}
+use Rattle.meaning.proofs.Entries.{goal-fits}
 use Rattle.agreement.specs.Unfolding.{Rest, Current, Running, this, that, both, broken, holding, undecided, first, second, working, workingCurrent, workingRunning}
 
 module _ (f : Entry → Bool) where
@@ -62,14 +63,7 @@ module _ (f : Entry → Bool) where
     all-running (more p ps) (both r c) h =
         append (working p r) (workingRunning ps c) (all-working p r (head (preorder p) (flat preorder (listOf ps)) h)) (all-running ps c (tail (preorder p) (flat preorder (listOf ps)) h))
 
--- A GOAL's value is at most 250, so that no goal byte is taken for another
-pub goal-small : (v k : ℕ) (e : Entry) → allowedEntry v k e ≡ true → isKind GOAL e ≡ true → leb (value (e .operand)) maxValue ≡ true
-unfolding allowedEntry operandAllowed goalAllowed kindOf numberOf
-goal-small v k e a g =
-    let is-goal : e .kind ≡ 1 = eqb-true (e .kind) 1 g in
-    let allowed : (eqb (e .operand .b0) 0 && (ltb (e .operand .b1) v && leb (value (e .operand)) maxValue)) ≡ true = rw is-goal at a in
-    and-right (ltb (e .operand .b1) v) (leb (value (e .operand)) maxValue) (and-right (eqb (e .operand .b0) 0) (ltb (e .operand .b1) v && leb (value (e .operand)) maxValue) allowed)
-
+-- no GOAL among allowed entries has a value above 250
 pub small-values : (v k : ℕ) (es : List Entry) → all (allowedEntry v k) es ≡ true → (u : ℕ) → all (λ x. leb x maxValue) (valuesFor u es) ≡ true
 unfolding valuesFor
 small-values v k [] h u = refl
@@ -80,4 +74,4 @@ small-values v k (e ∷ es) h u =
         → all (λ x. leb x maxValue) (cond (g && b) (value (e .operand) ∷ []) [] ++ valuesFor u es) ≡ true
     step false b g rest = rest
     step true false g rest = rest
-    step true true g rest = rw (goal-small v k e (and-left (allowedEntry v k e) (all (allowedEntry v k) es) h) g) rest
+    step true true g rest = rw (le-leb (value (e .operand)) maxValue (goal-fits v k e (and-left (allowedEntry v k e) (all (allowedEntry v k) es) h) g .1)) rest

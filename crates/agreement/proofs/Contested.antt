@@ -10,10 +10,11 @@ use lib.Dec.{eqb, leb}
 use lib.ListN.{length, getD}
 use borrow.Author.Tests.{eqb-true, eqb-false, leb-true}
 use Rattle.base.specs.Lists.{all}
-use Rattle.base.proofs.Lists.{and-left, and-right, getD-tabulate, length-tabulate}
+use Rattle.base.proofs.Lists.{and-left, and-right, getD-tabulate}
 use Rattle.meaning.specs.declared.Entry.{Entry}
 use Rattle.meaning.specs.Sizes.{maxValue}
 use Rattle.meaning.specs.Cycle.{contested, valuesFor, goalByte, goalBytes, Names}
+use Rattle.meaning.proofs.Entries.{length-goals}
 use Rattle.agreement.specs.Runs.{Differ, NamesContested}
 
 -- where a test fails of some, it fails of one; where it passes of all, it passes of each
@@ -61,10 +62,6 @@ differ-contested (x ∷ xs) d = go (all (eqb x) xs) refl
 pub byte-at : (n v : ℕ) (es : List Entry) → v < n → getD (goalBytes n es) v 0 ≡ goalByte (valuesFor v es)
 unfolding goalBytes
 byte-at n v es h = getD-tabulate (λ u. goalByte (valuesFor u es)) 0 n v 0 h ∙ ap (λ (u : ℕ). goalByte (valuesFor u es)) (zero-add v)
-
-pub length-goals : (n : ℕ) (es : List Entry) → length (goalBytes n es) ≡ n
-unfolding goalBytes
-length-goals n es = length-tabulate (λ u. goalByte (valuesFor u es)) 0 n
 
 -- "An offer names a variable that is contested in the unfolding, or 255 exactly where none is"
 pub names-contested : (n : ℕ) (es : List Entry) → ((v : ℕ) → Small (valuesFor v es)) → (name : ℕ) → Names (goalBytes n es) name → NamesContested n es name

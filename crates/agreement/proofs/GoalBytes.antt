@@ -1,7 +1,6 @@
 -- What each goal byte of an offer says, by part number.
-use Prim.Native.Nat.{ℕ, zero, suc, _+_, _≤_, _<_}
+use Prim.Native.Nat.{ℕ, zero, suc, _≤_, _<_}
 use native.Mathlib.Omega.{arith}
-use native.Mathlib.Nat.{zero-add, add-zero, suc-add, add-suc}
 use mathlib.Core.Path.{_≡_, refl, sym, _∙_}
 use mathlib.Core.Logic.{_↔_, _⊎_, inl, inr}
 use mathlib.Core.Bool.{Bool, true, false, cond, _&&_, _||_, false≢true, or-true}
@@ -17,14 +16,13 @@ use Rattle.meaning.specs.declared.Entry.{Entry}
 use Rattle.meaning.specs.declared.Form.the-variants.{Table}
 use Rattle.meaning.specs.Sizes.{maxValue}
 use Rattle.meaning.specs.Kinds.{GOAL, value}
-use Rattle.meaning.specs.Program.{parts, variables, clocks, entryAt, entriesFrom, entries, allowedEntry}
+use Rattle.meaning.specs.Program.{parts, variables, clocks, entryAt}
 use Rattle.meaning.specs.Table.{operandOf, isTable}
 use Rattle.meaning.specs.Record.{marksPlace, isMark, estimateIn, marksIn}
 use Rattle.meaning.specs.Cycle.{isKind, isLeaf, leavesFrom, noGoal, contested, valuesFor, goalByte, situation, checkedMarks, offeredGoals, offerRefusal, goalsInto}
-use Rattle.meaning.proofs.Tables.{table-held}
+use Rattle.meaning.proofs.Entries.{entry-allowed, goal-fits, length-goals}
 use Rattle.meaning.proofs.Records.{length-checked}
-use Rattle.agreement.proofs.Contested.{fails-of-one, all-first, byte-at, length-goals}
-use Rattle.agreement.proofs.AtWork.{goal-small}
+use Rattle.agreement.proofs.Contested.{fails-of-one, all-first, byte-at}
 use Rattle.agreement.proofs.RecordFields.{offer-tests}
 use Rattle.agreement.proofs.LeavesAt.{leaf-marked}
 
@@ -136,24 +134,9 @@ module _ (t ms : List ℕ) (v : ℕ) where
               let (q, k, f) = at (suc i) (omega arith) in
               inr (inr (refl, (p, q, g, k, λ s. eqb-false x (getD xs i 0) d (sym h ∙ s ∙ f))))
 
--- A test that all entries pass, each part's entry passes
-entry-passes : (f : Entry → Bool) (t : List ℕ) (n m i : ℕ) → all f (entriesFrom Table t n m) ≡ true → i < m → f (entryAt Table t (n + i)) ≡ true
-unfolding entriesFrom
-entry-passes f t n zero i h l = absurd (omega arith)
-entry-passes f t n (suc m) zero h l = rw add-zero (and-left (f (entryAt Table t n)) (all f (entriesFrom Table t (suc n) m)) h)
-entry-passes f t n (suc m) (suc i) h l =
-    rw (add-suc n i, ← (suc-add n i)) (entry-passes f t (suc n) m i (and-right (f (entryAt Table t n)) (all f (entriesFrom Table t (suc n) m)) h) (omega arith))
-
--- each entry of a table is allowed
-pub entry-allowed : (t : List ℕ) → isTable t ≡ true → (p : ℕ) → p < parts t → allowedEntry (variables t) (clocks t) (entryAt Table t p) ≡ true
-unfolding entries
-entry-allowed t h p l =
-    let (q, held, e) = table-held t h in
-    rw zero-add at (entry-passes (allowedEntry (variables t) (clocks t)) t 0 (parts t) p (rw (held .entries-are) (held .within .entries-allowed)) l)
-
 -- "value 0 to 250": a GOAL of a table
 pub goal-values-fit : (t : List ℕ) → isTable t ≡ true → (p : ℕ) → p < parts t → isKind GOAL (entryAt Table t p) ≡ true → value (operandOf t p) ≤ maxValue
-goal-values-fit t h p l g = leb-true (value (operandOf t p)) maxValue (goal-small (variables t) (clocks t) (entryAt Table t p) (entry-allowed t h p l) g)
+goal-values-fit t h p l g = goal-fits (variables t) (clocks t) (entryAt Table t p) (entry-allowed t h p l) g .1
 
 -- "Of the V goal bytes, each is"
 module _ (t r : List ℕ) (time : ℕ) (table : isTable t ≡ true) (v : ℕ) (below : v < variables t) where

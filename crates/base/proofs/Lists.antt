@@ -8,7 +8,7 @@ use mathlib.Core.List.{List, [], _∷_, _++_, map, append-assoc}
 use lib.Dec.{eqb, leb}
 use lib.ListN.{length, getD, replicate, length-append, List·getD-append}
 use lib.Seq.{getD-append-add}
-use borrow.Author.Tests.{leb-true, eqb-true, eq-eqb}
+use borrow.Author.Tests.{leb-true, eqb-true, eq-eqb, ne-eqb}
 use Rattle.base.specs.Lists.{sum, flat, all, same, firstFailing, tabulate}
 
 -- both of two tests that pass together
@@ -100,6 +100,17 @@ none-fails (t ∷ ts) n h =
 pub passed : (ts : List (ℕ × Bool)) → Passed ts → firstFailing ts ≡ 0
 passed [] h = refl
 passed (t ∷ ts) h = rw (h .0) (passed ts (h .1))
+
+-- tests in two lists: those of the second decide where none of the first fails
+pub fails-append : (xs ys : List (ℕ × Bool)) → all (λ t. leb 1 (t .0)) xs ≡ true → firstFailing (xs ++ ys) ≡ cond (eqb (firstFailing xs) 0) (firstFailing ys) (firstFailing xs)
+fails-append [] ys n = refl
+fails-append (x ∷ xs) ys n =
+    first-decides (x .1) (leb-true 1 (x .0) (and-left (leb 1 (x .0)) (all (λ t. leb 1 (t .0)) xs) n)) (fails-append xs ys (and-right (leb 1 (x .0)) (all (λ t. leb 1 (t .0)) xs) n))
+  where
+    first-decides : (b : Bool) → 1 ≤ x .0 → firstFailing (xs ++ ys) ≡ cond (eqb (firstFailing xs) 0) (firstFailing ys) (firstFailing xs)
+        → cond b (firstFailing (xs ++ ys)) (x .0) ≡ cond (eqb (cond b (firstFailing xs) (x .0)) 0) (firstFailing ys) (cond b (firstFailing xs) (x .0))
+    first-decides true l rest = rest
+    first-decides false l rest = rw (ne-eqb (x .0) 0 (λ z. omega (arith, z)))
 
 -- a test that each of n equal elements passes
 pub all-replicate : {A : Type 0} (t : A → Bool) (n : ℕ) (x : A) → t x ≡ true → all t (replicate n x) ≡ true

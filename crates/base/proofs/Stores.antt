@@ -51,6 +51,11 @@ getD-bytes s k zero j h = absurd (omega arith)
 getD-bytes s k (suc n) zero h = rw add-zero
 getD-bytes s k (suc n) (suc j) h = getD-bytes s (suc k) n j (omega arith) ∙ rw (suc-add, add-suc)
 
+-- bytes that are the same one by one
+pub bytes-same : (r s : List ℕ) (i n : ℕ) → ((j : ℕ) → i ≤ j → j < i + n → getD s j 0 ≡ getD r j 0) → bytesAt s i n ≡ bytesAt r i n
+bytes-same r s i zero h = refl
+bytes-same r s i (suc n) h = rw (h i (omega arith) (omega arith), bytes-same r s (suc i) n (λ j a b. h j (omega arith) (omega arith)))
+
 -- where a list goes on with xs from place k on, those are its bytes there, and it goes on after them
 pub drop-front : (s xs ys : List ℕ) (k : ℕ) → drop k s ≡ xs ++ ys → drop (k + length xs) s ≡ ys
 drop-front s xs ys k e = sym (drop-drop (length xs) k s) ∙ rw e (drop-append-seam xs ys)

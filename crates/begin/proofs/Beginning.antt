@@ -15,7 +15,7 @@ use Rattle.meaning.specs.Table.{isTable}
 use Rattle.meaning.specs.Record.{estimatePlace, marksPlace, recordLength, waiting, padded, recordBytes}
 use Rattle.meaning.specs.Cycle.{fresh, estimateAllowed, beginRefusal, begunInto}
 use Rattle.meaning.specs.Operations.{Begun}
-use Rattle.meaning.proofs.Records.{Shaped, Fits, length-root, begin-tests, begun-fits, begun-bytes, estimate-written, marks-written}
+use Rattle.meaning.proofs.Records.{Shaped, length-root, begin-tests, begun-fits, begun-bytes, estimate-written, marks-written}
 
 -- a record that holds nothing but 0
 padded-zeros : (n k : ℕ) → k ≤ n → padded n (replicate k 0) ≡ replicate n 0

@@ -11,7 +11,7 @@ use lib.ListN.{length, getD, take, drop, set}
 use lib.Seq.{sets, set-getD, getD-set-other, take-at}
 use Rattle.base.specs.Lists.{bytesAt}
 use Rattle.base.proofs.Lists.{tabulate-same}
-use Rattle.base.proofs.Stores.{length-bytes, drop-bytes, bytes-sets-out}
+use Rattle.base.proofs.Stores.{length-bytes, bytes-same, drop-bytes, bytes-sets-out}
 use Rattle.meaning.specs.declared.Operand.{Operand}
 use Rattle.meaning.specs.declared.Entry.{Entry}
 use Rattle.meaning.specs.declared.Outcome.{Outcome}
@@ -25,11 +25,6 @@ use Rattle.meaning.specs.Record.{estimatePlace, startedPlace, startsPlace, mark
 use Rattle.meaning.specs.Cycle.{isKind, breaks, checkedFrom, checkedMarks, situation}
 use Rattle.meaning.proofs.Tables.{table-held}
 use Rattle.offer.specs.Turns.{judging, turned, skipAfter, checkedRest}
-
--- bytes that are the same one by one
-pub bytes-same : (r s : List ℕ) (i n : ℕ) → ((j : ℕ) → i ≤ j → j < i + n → getD s j 0 ≡ getD r j 0) → bytesAt s i n ≡ bytesAt r i n
-bytes-same r s i zero h = refl
-bytes-same r s i (suc n) h = rw (h i (omega arith) (omega arith), bytes-same r s (suc i) n (λ j a b. h j (omega arith) (omega arith)))
 
 -- Records that hold the same between time and marks judge the same
 module _ (t r s : List ℕ) (time : ℕ) (table : isTable t ≡ true) (same : (j : ℕ) → estimatePlace ≤ j → j < marksPlace → getD s j 0 ≡ getD r j 0) where

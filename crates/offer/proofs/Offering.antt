@@ -4,71 +4,62 @@ use native.Mathlib.Omega.{arith}
 use mathlib.Core.Path.{_≡_, refl, sym, ap, _∙_}
 use mathlib.Core.Logic.{inr}
 use mathlib.Core.Bool.{Bool, true, false, not, _&&_}
-use mathlib.Core.List.{List, [], _∷_}
+use mathlib.Core.List.{List, [], _∷_, _++_}
 use lib.Dec.{eqb, leb}
 use lib.ListN.{length, getD, set, length-set}
 use lib.Seq.{sets, length-sets, getD-set-other}
-use borrow.Author.Tests.{not-true, not-false, leb-true, le-leb, lt-leb, ne-eqb}
-use Rattle.base.specs.Lists.{bytesAt}
+use borrow.Author.Tests.{leb-true, le-leb, lt-leb, ne-eqb}
+use Rattle.base.specs.Lists.{firstFailing, bytesAt}
 use Rattle.base.proofs.Lists.{Passed, none-fails, and-left}
-use Rattle.base.proofs.Stores.{length-bytes, getD-sets-out, bytes-sets}
+use Rattle.base.proofs.Stores.{length-bytes, bytes-same, getD-sets-out, bytes-sets}
 use Rattle.meaning.specs.declared.Refusal.{Refusal}
 use Rattle.meaning.specs.declared.Answer.{Answer}
-use Rattle.meaning.specs.declared.Answer.the-variants.{Refused}
+use Rattle.meaning.specs.declared.Answer.the-variants.{Done, Refused}
 use Rattle.meaning.specs.Sizes.{timeWidth, littleEndian}
 use Rattle.meaning.specs.Program.{parts, variables}
 use Rattle.meaning.specs.Table.{isTable}
-use Rattle.meaning.specs.Record.{timePlace, estimatePlace, marksPlace, recordLength, phaseOf, lastTime, estimateIn, marksIn, offered, finished, recordAllowed, restZero, valuesAllowed, clocksAllowed, rootAllowed, partsAllowed}
+use Rattle.meaning.specs.Record.{timePlace, estimatePlace, marksPlace, recordLength, phaseOf, lastTime, estimateIn, marksIn, offered, recordAllowed, restZero, valuesAllowed, clocksAllowed, rootAllowed, partsAllowed}
 use Rattle.meaning.specs.Cycle.{leavesFrom, goalBytes, situation, checkedFrom, offerRefusal, checkedMarks, offeredGoals, offeredRecord, offeredInto, goalsInto}
 use Rattle.meaning.specs.Answers.{answered, refusalNumber, answerNumber}
 use Rattle.meaning.specs.Operations.{Offered}
-use Rattle.meaning.proofs.Answers.{refusal-positive}
+use Rattle.meaning.proofs.Answers.{is-refused, refused-before, left-open}
 use Rattle.meaning.proofs.Records.{length-checked}
 use Rattle.meaning.proofs.Tables.{table-held}
+use Rattle.meaning.proofs.Entries.{length-goals}
+use Rattle.record.specs.Running.{runTests}
 use Rattle.offer.specs.Turns.{judging}
 use Rattle.offer.specs.Raised.{lowestContested}
-use Rattle.offer.specs.Refusing.{lateRefusal}
-use Rattle.offer.proofs.Checking.{bytes-same, judging-same}
-use Rattle.offer.proofs.Raising.{length-goals}
+use Rattle.offer.proofs.Checking.{judging-same}
 use Rattle.offer.proofs.Names.{lowest-names}
 
--- The refusals, each by the test that fails after those that pass
-module _ (t r : List ℕ) (time room l : ℕ) (l-is : l ≡ lastTime r) where
-  pub late-time : time < l → 12 ≡ lateRefusal t r time room
-  unfolding lateRefusal
-  late-time h = rw (lt-leb (lastTime r) time (rw (← l-is) h))
+-- The refusals: those of every run that does not go on, then each by the test that fails after those that pass
+module _ (t r : List ℕ) (time room : ℕ) where
+  abbrev lateTests : List (ℕ × Bool)
+  lateTests = (11, not (eqb (phaseOf r) offered)) ∷ (12, leb (lastTime r) time) ∷ (8, leb (variables t) room) ∷ []
 
-  module _ (v w : ℕ) (v-is : v ≡ variables t) (w-is : w ≡ v) (in-time : l ≤ time) where
-    pub late-room : room < w → 8 ≡ lateRefusal t r time room
-    unfolding lateRefusal
-    late-room h = rw (le-leb (lastTime r) time (rw (← l-is) in-time), lt-leb (variables t) room (omega arith))
-
-    pub late-none : w ≤ room → 0 ≡ lateRefusal t r time room
-    unfolding lateRefusal
-    late-none h = rw (le-leb (lastTime r) time (rw (← l-is) in-time), le-leb (variables t) room (omega arith))
-
-module _ (t r : List ℕ) (time room : ℕ) (a : Bool) (a-is : a ≡ isTable t) where
-  pub not-table : not a ≡ true → 9 ≡ offerRefusal t r time room
-  unfolding offerRefusal
-  not-table h = rw (← a-is, not-true a h)
-
-  module _ (b : Bool) (b-is : b ≡ recordAllowed t r) (a-holds : not a ≡ false) where
-    pub not-allowed : not b ≡ true → 10 ≡ offerRefusal t r time room
+  module _ (a : Answer) (a-is : answerNumber a ≡ firstFailing (runTests t r)) where
+    pub refused-early : (why : Refusal) → a ≡ Refused why → answerNumber a ≡ offerRefusal t r time room
     unfolding offerRefusal
-    not-allowed h = rw (← a-is, not-false a a-holds, ← b-is, not-true b h)
+    refused-early = refused-before (runTests t r) lateTests refl a a-is
 
-    module _ (p : ℕ) (p-is : p ≡ phaseOf r) (b-holds : not b ≡ false) where
-      pub run-over : p ≡ finished → 14 ≡ offerRefusal t r time room
+    module _ (goes : a ≡ Done) (p : ℕ) (p-is : p ≡ phaseOf r) where
+      then-late : offerRefusal t r time room ≡ firstFailing lateTests
       unfolding offerRefusal
-      run-over h = rw (← a-is, not-false a a-holds, ← b-is, not-false b b-holds, ← p-is, h)
+      then-late = left-open (runTests t r) lateTests refl a a-is goes
 
       pub offered-already : p ≡ offered → 11 ≡ offerRefusal t r time room
-      unfolding offerRefusal
-      offered-already h = rw (← a-is, not-false a a-holds, ← b-is, not-false b b-holds, ← p-is, h)
+      offered-already h = sym (then-late ∙ rw (← p-is, h))
 
-      pub refused-late : (n : ℕ) → (p ≡ finished → ⊥) → (p ≡ offered → ⊥) → n ≡ lateRefusal t r time room → n ≡ offerRefusal t r time room
-      unfolding offerRefusal lateRefusal
-      refused-late n f o n-is = rw (← a-is, not-false a a-holds, ← b-is, not-false b b-holds, ← p-is, ne-eqb p finished f, ne-eqb p offered o) n-is
+      module _ (waits : p ≡ offered → ⊥) (l : ℕ) (l-is : l ≡ lastTime r) where
+        pub too-early : time < l → 12 ≡ offerRefusal t r time room
+        too-early h = sym (then-late ∙ rw (← p-is, ne-eqb p offered waits, lt-leb (lastTime r) time (rw (← l-is) h)))
+
+        module _ (v w : ℕ) (v-is : v ≡ variables t) (w-is : w ≡ v) (in-time : l ≤ time) where
+          pub no-room : room < w → 8 ≡ offerRefusal t r time room
+          no-room h = sym (then-late ∙ rw (← p-is, ne-eqb p offered waits, le-leb (lastTime r) time (rw (← l-is) in-time), lt-leb (variables t) room (omega arith)))
+
+          pub none-refuses : w ≤ room → 0 ≡ offerRefusal t r time room
+          none-refuses h = sym (then-late ∙ rw (← p-is, ne-eqb p offered waits, le-leb (lastTime r) time (rw (← l-is) in-time), le-leb (variables t) room (omega arith)))
 
 -- What an offer that is not refused finds
 allowed-long : (t r : List ℕ) → recordAllowed t r ≡ true → recordLength ≤ length r
@@ -76,12 +67,9 @@ unfolding recordAllowed
 allowed-long t r h = leb-true recordLength (length r) (and-left (leb recordLength (length r)) (restZero t r && (valuesAllowed t r && (clocksAllowed t r && (rootAllowed (phaseOf r) (marksIn t r) && partsAllowed t (phaseOf r) 0 (marksIn t r))))) h)
 
 module _ (t r : List ℕ) (time room : ℕ) (free : offerRefusal t r time room ≡ 0) where
-  abbrev tests : List (ℕ × Bool)
-  tests = (9, isTable t) ∷ (10, recordAllowed t r) ∷ (14, not (eqb (phaseOf r) finished)) ∷ (11, not (eqb (phaseOf r) offered)) ∷ (12, leb (lastTime r) time) ∷ (8, leb (variables t) room) ∷ []
-
-  offer-passes : Passed tests
+  offer-passes : Passed (runTests t r ++ lateTests t r time room)
   unfolding offerRefusal
-  offer-passes = none-fails tests refl free
+  offer-passes = none-fails (runTests t r ++ lateTests t r time room) refl free
 
   pub offer-table : isTable t ≡ true
   offer-table = offer-passes .0
@@ -130,7 +118,7 @@ pub offer-refused : (t r g : List ℕ) (time : ℕ) (a : Answer) (why : Refusal)
 unfolding offeredInto goalsInto
 offer-refused t r g time a why a-is told =
     let e : refusalNumber why ≡ offerRefusal t r time (length g) = ap answerNumber (sym told) ∙ a-is in
-    let n : offerRefusal t r time (length g) ≡ 0 → ⊥ = λ z. refusal-positive why (e ∙ z) in
+    let n : offerRefusal t r time (length g) ≡ 0 → ⊥ = is-refused a why (offerRefusal t r time (length g)) a-is told in
     let z : eqb (offerRefusal t r time (length g)) 0 ≡ false = ne-eqb (offerRefusal t r time (length g)) 0 n in
     record {
       refusal-is = λ h. e;

@@ -1,55 +1,36 @@
 -- Goal bytes: the pass over the marked leaves, byte by byte, gives what the definitions say of each variable.
-use Prim.Native.Nat.{ℕ, zero, suc, _+_, _-_, _<_, _≤_}
-use native.Mathlib.Nat.{zero-add, add-zero, add-suc, suc-add, sub-zero}
+use Prim.Native.Nat.{ℕ, suc, _+_, _-_, _<_, _≤_}
+use native.Mathlib.Nat.{zero-add, sub-zero}
 use native.Mathlib.Numerals.{add-one}
 use native.Mathlib.Omega.{arith}
 use mathlib.Core.Path.{_≡_, refl, sym, ap, _∙_}
 use mathlib.Core.Bool.{Bool, true, false, cond, _&&_, _||_}
 use mathlib.Core.List.{List, [], _∷_, _++_}
-use lib.Dec.{eqb, leb, ltb}
+use lib.Dec.{eqb}
 use lib.ListN.{length, getD, drop, set, replicate, length-set, length-replicate, getD-replicate, List·getD-append}
 use lib.Seq.{sets, set-append-left, getD-set-same, getD-set-other, ext-getD}
-use borrow.Author.Tests.{eqb-true, eqb-false, eq-eqb, ne-eqb, leb-true, ltb-true}
+use borrow.Author.Tests.{eqb-true, eqb-false, eq-eqb, ne-eqb}
 use Rattle.base.specs.Lists.{all, bytesAt, tabulate}
-use Rattle.base.proofs.Lists.{and-left, and-right, length-tabulate, getD-tabulate}
+use Rattle.base.proofs.Lists.{and-right, length-tabulate, getD-tabulate}
 use Rattle.base.proofs.Stores.{length-bytes, sets-start}
 use Rattle.meaning.specs.declared.Operand.{Operand}
 use Rattle.meaning.specs.declared.Entry.{Entry}
 use Rattle.meaning.specs.declared.Form.the-variants.{Table}
 use Rattle.meaning.specs.Sizes.{maxValue}
-use Rattle.meaning.specs.Kinds.{GOAL, START, WAIT, kindOf, numberOf, value, goalAllowed, operandAllowed}
-use Rattle.meaning.specs.Program.{parts, variables, clocks, entryAt, entriesFrom, entries, allowedEntry}
+use Rattle.meaning.specs.Kinds.{GOAL, START, WAIT, value}
+use Rattle.meaning.specs.Program.{parts, variables, clocks, entryAt}
 use Rattle.meaning.specs.Table.{isTable}
 use Rattle.meaning.specs.Record.{marksPlace, marksIn, isMark}
 use Rattle.meaning.specs.Cycle.{noGoal, contested, isKind, isLeaf, leavesFrom, valuesFor, goalByte, goalBytes}
-use Rattle.meaning.proofs.Tables.{table-held}
+use Rattle.meaning.proofs.Entries.{entry-allowed, goal-fits, length-goals}
 use Rattle.offer.specs.Raised.{joined, raised, raisedBy, leafAt}
 
 -- What the entries of a table satisfy: a GOAL names a variable of the program, and a value that is at most 250
 abbrev Fitting : ℕ → Entry → Type 0
 Fitting v e = isKind GOAL e ≡ true → (e .operand .b1 < v) × (value (e .operand) ≤ maxValue)
 
-goal-fits : (v k : ℕ) (e : Entry) → allowedEntry v k e ≡ true → Fitting v e
-unfolding allowedEntry operandAllowed goalAllowed kindOf numberOf
-goal-fits v k e a g =
-    let is-goal : e .kind ≡ 1 = eqb-true (e .kind) 1 g in
-    let allowed : (eqb (e .operand .b0) 0 && (ltb (e .operand .b1) v && leb (value (e .operand)) maxValue)) ≡ true = rw is-goal at a in
-    let named = and-right (eqb (e .operand .b0) 0) (ltb (e .operand .b1) v && leb (value (e .operand)) maxValue) allowed in
-    (ltb-true (e .operand .b1) v (and-left (ltb (e .operand .b1) v) (leb (value (e .operand)) maxValue) named), leb-true (value (e .operand)) maxValue (and-right (ltb (e .operand .b1) v) (leb (value (e .operand)) maxValue) named))
-
--- a test that all entries pass, each part's entry passes
-entry-passes : (f : Entry → Bool) (t : List ℕ) (n m i : ℕ) → all f (entriesFrom Table t n m) ≡ true → i < m → f (entryAt Table t (n + i)) ≡ true
-unfolding entriesFrom
-entry-passes f t n zero i h l = absurd (omega arith)
-entry-passes f t n (suc m) zero h l = rw add-zero (and-left (f (entryAt Table t n)) (all f (entriesFrom Table t (suc n) m)) h)
-entry-passes f t n (suc m) (suc i) h l =
-    rw (add-suc n i, ← (suc-add n i)) (entry-passes f t (suc n) m i (and-right (f (entryAt Table t n)) (all f (entriesFrom Table t (suc n) m)) h) (omega arith))
-
-pub table-fits : (t : List ℕ) → isTable t ≡ true → (p : ℕ) → p < parts t → Fitting (variables t) (entryAt Table t p)
-unfolding entries
-table-fits t h p l =
-    let (q, held, e) = table-held t h in
-    goal-fits (variables t) (clocks t) (entryAt Table t p) (rw zero-add at (entry-passes (allowedEntry (variables t) (clocks t)) t 0 (parts t) p (rw (held .entries-are) (held .within .entries-allowed)) l))
+table-fits : (t : List ℕ) → isTable t ≡ true → (p : ℕ) → p < parts t → Fitting (variables t) (entryAt Table t p)
+table-fits t h p l = goal-fits (variables t) (clocks t) (entryAt Table t p) (entry-allowed t h p l)
 
 -- entries that all fit
 abbrev Fit : ℕ → List Entry → Type 0
@@ -158,10 +139,6 @@ raised-beside v xs zs (e ∷ es) n h =
     go : (k : Bool) → (k ≡ true → (e .operand .b1 < v) × (value (e .operand) ≤ maxValue)) → cond k (raised (xs ++ zs) (e .operand)) (xs ++ zs) ≡ cond k (raised xs (e .operand)) xs ++ zs
     go true f = raised-front xs zs (e .operand) (omega (arith, n, f refl .0))
     go false f = refl
-
-pub length-goals : (v : ℕ) (es : List Entry) → length (goalBytes v es) ≡ v
-unfolding goalBytes
-length-goals v es = length-tabulate _ 0 v
 
 goals-raised : (v : ℕ) (g : List ℕ) (es : List Entry) → Fit v es → v ≤ length g → raisedBy (sets g 0 (replicate v noGoal)) es ≡ sets g 0 (goalBytes v es)
 goals-raised v g es h l =

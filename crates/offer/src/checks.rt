@@ -75,7 +75,7 @@ fn turn(t: &[u8], r: &mut [u8], time: u32, p: Number, skip: Number) -> Number
 }
 
 // Checks all parts, from the root down.
-pub fn check_marks(t: &[u8], r: &mut [u8], time: u32)
+pub(crate) fn check_marks(t: &[u8], r: &mut [u8], time: u32)
     requires { ⌜ isTable (now t) ≡ true ⌝ }
     requires { ⌜ recordLength ≤ length (now r) ⌝ }
     ensures { λ _. ⌜ now (r .exit) ≡ sets (now (r .entry)) marksPlace (checkedMarks (now (t .entry)) (now (r .entry)) time) ⌝ }

@@ -81,7 +81,7 @@ fn raise_all(t: &[u8], r: &[u8], g: &mut [u8])
 }
 
 // Writes the goal bytes of the program's variables.
-pub fn write_goals(t: &[u8], r: &[u8], g: &mut [u8])
+pub(crate) fn write_goals(t: &[u8], r: &[u8], g: &mut [u8])
     requires { ⌜ isTable (now t) ≡ true ⌝ }
     requires { ⌜ variables (now t) ≤ length (now g) ⌝ }
     ensures { λ _. ⌜ now (g .exit) ≡ sets (now (g .entry)) 0 (goalBytes (variables (now (t .entry))) (leavesFrom (now (t .entry)) 0 (marksIn (now (t .entry)) (now (r .entry))))) ⌝ }

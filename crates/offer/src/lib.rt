@@ -11,15 +11,13 @@ use base::wide;
 use meaning::Answer;
 use meaning::OfferAnswer;
 use meaning::Refusal;
-use meaning::sizes::FINISHED;
 use meaning::sizes::OFFERED;
 use meaning::sizes::TIME_PLACE;
 use program::held::variables;
+use record::examine;
 use record::fields::last_time;
 use record::fields::phase;
-use record::is_allowed;
 use record::times::put_time;
-use table::is_table;
 ghost use mathlib.Core.Path.{_≡_};
 ghost use mathlib.Core.Bool.{true};
 ghost use Prim.Native.Nat.{_+_, _≤_};
@@ -31,7 +29,6 @@ ghost use Rattle.meaning.specs.Cycle.{offerRefusal, offeredRecord, offeredGoals
 ghost use Rattle.meaning.specs.Answers.{answered, answerNumber, offerNumber};
 ghost use Rattle.meaning.specs.Operations.{Offered};
 ghost use Rattle.offer.specs.Raised.{lowestContested};
-ghost use Rattle.offer.specs.Refusing.{lateRefusal};
 
 // Makes an offer: refusals 9, 10, 14, 11, 12, 8.
 pub fn offer(t: &[u8], r: &mut [u8], time: u32, goals: &mut [u8]) -> OfferAnswer
@@ -48,26 +45,13 @@ pub fn offer(t: &[u8], r: &mut [u8], time: u32, goals: &mut [u8]) -> OfferAnswer
 fn refusal(t: &[u8], r: &[u8], time: u32, room: usize) -> Answer
     ensures { λ a. ⌜ answerNumber a ≡ offerRefusal (now (t .entry)) (now (r .entry)) time room ⌝ }
 {
-    if !is_table(t) {
-        return Answer::Refused(Refusal::NotATable);
-    }
-    if !is_allowed(t, r) {
-        return Answer::Refused(Refusal::RecordNotAllowed);
-    }
-    let current = phase(r);
-    if current == FINISHED {
-        return Answer::Refused(Refusal::RunFinished);
-    }
-    if current == OFFERED {
+    let answer = examine(t, r);
+    let Answer::Done = answer else {
+        return answer;
+    };
+    if phase(r) == OFFERED {
         return Answer::Refused(Refusal::WrongPhase);
     }
-    late_refusal(t, r, time, room)
-}
-
-// The last two of the reasons: 12, then 8.
-fn late_refusal(t: &[u8], r: &[u8], time: u32, room: usize) -> Answer
-    ensures { λ a. ⌜ answerNumber a ≡ lateRefusal (now (t .entry)) (now (r .entry)) time room ⌝ }
-{
     if time < last_time(r) {
         return Answer::Refused(Refusal::TimeBeforeLast);
     }

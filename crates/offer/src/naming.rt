@@ -10,7 +10,7 @@ ghost use Rattle.meaning.specs.Answers.{answered, offerNumber};
 ghost use Rattle.offer.specs.Raised.{lowestContested};
 
 // Names the lowest of n variables whose goal byte is contested, or none.
-pub fn lowest_contested(g: &[u8], n: u8) -> OfferAnswer
+pub(crate) fn lowest_contested(g: &[u8], n: u8) -> OfferAnswer
     ensures { λ a. ⌜ offerNumber a ≡ answered + lowestContested 0 (bytesAt (now (g .entry)) 0 n) ⌝ }
 {
     for v in 0..n {

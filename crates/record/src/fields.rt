@@ -2,7 +2,6 @@
 use base::at;
 use base::wide;
 use meaning::Number;
-use meaning::sizes::ESTIMATE_PLACE;
 use meaning::sizes::MARKS_PLACE;
 use meaning::sizes::STARTED_PLACE;
 use meaning::sizes::STARTS_PLACE;
@@ -14,7 +13,7 @@ ghost use Prim.Native.Nat.{_+_, _*_, _<_};
 ghost use lib.Dec.{eqb};
 ghost use lib.ListN.{getD};
 ghost use Rattle.meaning.specs.Sizes.{timeWidth};
-ghost use Rattle.meaning.specs.Record.{estimatePlace, startedPlace, startsPlace, marksPlace, timeAt, phaseOf, lastTime, isMark};
+ghost use Rattle.meaning.specs.Record.{startedPlace, startsPlace, marksPlace, timeAt, phaseOf, lastTime, isMark};
 
 pub fn phase(r: &[u8]) -> u8
     ensures { λ b. ⌜ b ≡ phaseOf (now (r .entry)) ⌝ }
@@ -38,13 +37,6 @@ pub fn last_time(r: &[u8]) -> u32
     ensures { λ x. ⌜ x ≡ lastTime (now (r .entry)) ⌝ }
 {
     time_at(r, TIME_PLACE)
-}
-
-// The estimate of variable v.
-pub fn estimate(r: &[u8], v: u8) -> u8
-    ensures { λ b. ⌜ b ≡ getD (now (r .entry)) (estimatePlace + v) 0 ⌝ }
-{
-    at(r, ESTIMATE_PLACE + wide(v))
 }
 
 // Whether clock c is started, and its start time.

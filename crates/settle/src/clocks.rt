@@ -94,7 +94,7 @@ fn start_named(t: &[u8], r: &mut [u8], named: &[u8])
 }
 
 // Starts the clocks that marked STARTs name.
-pub fn start_clocks(t: &[u8], r: &mut [u8])
+pub(crate) fn start_clocks(t: &[u8], r: &mut [u8])
     requires { ⌜ isTable (now t) ≡ true ⌝ }
     ensures { λ _. ⌜ now (r .exit) ≡ sets (sets (now (r .entry)) startedPlace (clockFlags (clocks (now (t .entry))) (startingLeaves (now (t .entry)) (now (r .entry))) (startedIn (now (t .entry)) (now (r .entry))))) startsPlace (flat (littleEndian timeWidth) (clockStarts (clocks (now (t .entry))) (startingLeaves (now (t .entry)) (now (r .entry))) (startedIn (now (t .entry)) (now (r .entry))) (startsIn (now (t .entry)) (now (r .entry))) (lastTime (now (r .entry))))) ⌝ }
 {

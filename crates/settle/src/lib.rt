@@ -21,10 +21,9 @@ use meaning::sizes::MAX_MARKS;
 use meaning::sizes::WAITING;
 use program::held::parts;
 use program::held::variables;
+use record::examine;
 use record::fields::phase;
-use record::is_allowed;
 use record::values::estimate_allowed;
-use table::is_table;
 ghost use mathlib.Core.Path.{_≡_};
 ghost use mathlib.Core.Bool.{true, cond};
 ghost use lib.ListN.{length};
@@ -42,17 +41,11 @@ ghost use Rattle.settle.specs.Answering.{earlyRefusal, Judged};
 fn refused(t: &[u8], r: &[u8], est: &[u8]) -> Answer
     ensures { λ a. ⌜ answerNumber a ≡ earlyRefusal (now (t .entry)) (now (r .entry)) (now (est .entry)) ⌝ }
 {
-    if !is_table(t) {
-        return Answer::Refused(Refusal::NotATable);
-    }
-    if !is_allowed(t, r) {
-        return Answer::Refused(Refusal::RecordNotAllowed);
-    }
-    let current = phase(r);
-    if current == FINISHED {
-        return Answer::Refused(Refusal::RunFinished);
-    }
-    if current == WAITING {
+    let answer = examine(t, r);
+    let Answer::Done = answer else {
+        return answer;
+    };
+    if phase(r) == WAITING {
         return Answer::Refused(Refusal::WrongPhase);
     }
     if !estimate_allowed(t, est) {

@@ -105,7 +105,7 @@ fn turn(t: &[u8], r: &[u8], est: &[u8], m: &mut [u8], p: Number, low: Lowest) ->
 }
 
 // Stores the marks after the settling at the beginning of m.
-pub fn settle_marks(t: &[u8], r: &[u8], est: &[u8], m: &mut [u8])
+pub(crate) fn settle_marks(t: &[u8], r: &[u8], est: &[u8], m: &mut [u8])
     requires { ⌜ isTable (now t) ≡ true ⌝ }
     ensures { λ _. ⌜ now (m .exit) ≡ sets (now (m .entry)) 0 (settledMarks (now (t .entry)) (now (r .entry)) (now (est .entry))) ⌝ }
 {

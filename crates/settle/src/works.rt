@@ -39,7 +39,7 @@ fn pending_after(t: &[u8], m: &[u8], p: Number, pending: Number) -> Number
 }
 
 // Whether a leaf or a deciding CHOICE is marked.
-pub fn works(t: &[u8], m: &[u8]) -> bool
+pub(crate) fn works(t: &[u8], m: &[u8]) -> bool
     requires { ⌜ isTable (now t) ≡ true ⌝ }
     ensures { λ b. ⌜ b ≡ worksFrom (now (t .entry)) 0 (bytesAt (now (m .entry)) 0 (parts (now (t .entry)))) ⌝ }
 {

@@ -16,26 +16,19 @@ use Rattle.meaning.specs.declared.Form.{Form}
 use Rattle.meaning.specs.declared.Form.the-variants.{File, Table}
 use Rattle.meaning.specs.declared.Refusal.{Refusal}
 use Rattle.meaning.specs.declared.Answer.{Answer}
-use Rattle.meaning.specs.declared.Answer.the-variants.{Done, Refused}
+use Rattle.meaning.specs.declared.Answer.the-variants.{Refused}
 use Rattle.meaning.specs.Sizes.{noPart, maxParts, headerLength, linksLength, lengthOf, bytesAt}
 use Rattle.meaning.specs.Tree.{Part}
 use Rattle.meaning.specs.Program.{parts, variables, clocks, sizeBytes, entries, isTree, kindByte, entryOperand, arrays, programRefusal}
 use Rattle.meaning.specs.Table.{Row, linkBytes, block, tableOf, compiled, fileIn, isTable, tableRefusal, readRefusal, readInto, writeRefusal, writtenInto}
-use Rattle.meaning.specs.Answers.{refusalNumber, answerNumber}
-use Rattle.meaning.proofs.Answers.{refusal-positive}
+use Rattle.meaning.specs.Answers.{answerNumber}
+use Rattle.meaning.proofs.Answers.{is-refused}
 use Rattle.meaning.proofs.Files.{Holds, accepted, length-entries, sizes-back}
 use Rattle.meaning.proofs.Tables.{rows-entries, length-rows, compiled-is, table-checked}
 use Rattle.program.specs.Walk.{Stands, partAt}
 use Rattle.program.proofs.Standing.{Alone, alone, alone-stands, alone-part}
 use Rattle.table.specs.Links.{rowsFrom, every, rowMatches}
 use Rattle.table.proofs.TableRows.{rows-from, rows-match}
-
--- what an answer says of the refusal that it names
-pub not-refused : (a : Answer) (n : ℕ) → answerNumber a ≡ n → a ≡ Done → n ≡ 0
-not-refused a n e d = sym e ∙ ap answerNumber d
-
-is-refused : (a : Answer) (r : Refusal) (n : ℕ) → answerNumber a ≡ n → a ≡ Refused r → n ≡ 0 → ⊥
-is-refused a r n e d z = refusal-positive r (ap answerNumber (sym d) ∙ e ∙ z)
 
 -- the sizes of bytes that hold a tree and its rows, from its entries and its links, are its table
 rows-table : (form : Form) (s : List ℕ) (p : Part) → Holds form s p → (zeros ls : List ℕ) → length zeros ≡ linksLength * maxParts → ls ≡ sets zeros 0 (flat linkBytes (block p .rows 0 noPart noPart))

@@ -344,31 +344,22 @@ fn a_condition_breaks_as_a_clock_comes_due() {
         assert_eq!(run.record()[37..39], [1, 1], "clock 1 is started too");
         run.offer(15, &[0x01]);
     });
-    // It is broken at that cycle's offer: clock 1 is never started.
-    rehearse(&doubtful, &[0], |run| {
-        run.offer(10, &[0xFF]);
-        run.runs_on(&[0]);
-        run.offer(14, &[0xFF]);
-        run.runs_on(&[2]);
-        run.offer(15, &[0xFF]);
-        run.runs_on(&[0]);
-        run.offer(15, &[0x03]);
-        run.finishes(&[3]);
-        assert_eq!(run.record()[37..39], [1, 0]);
-    });
-    // It is broken by the estimate of the settling at which the clock is due: the WAIT ends there,
-    // and the START that has begun is lost at the next offer.
-    rehearse(&doubtful, &[0], |run| {
-        run.offer(10, &[0xFF]);
-        run.runs_on(&[0]);
-        run.offer(15, &[0xFF]);
-        run.runs_on(&[2]);
-        run.offer(15, &[0xFF]);
-        run.runs_on(&[0]);
-        run.offer(15, &[0x03]);
-        run.finishes(&[3]);
-        assert_eq!(run.record()[37..39], [1, 0]);
-    });
+    // An estimate breaks it one cycle before, so that the WAIT is lost at the offer of the cycle in
+    // which the clock is due; or at that cycle's settling, so that the WAIT ends there and the START
+    // that has begun is lost at the next offer.
+    for broken_at in [14, 15] {
+        rehearse(&doubtful, &[0], |run| {
+            run.offer(10, &[0xFF]);
+            run.runs_on(&[0]);
+            run.offer(broken_at, &[0xFF]);
+            run.runs_on(&[2]);
+            run.offer(15, &[0xFF]);
+            run.runs_on(&[0]);
+            run.offer(15, &[0x03]);
+            run.finishes(&[3]);
+            assert_eq!(run.record()[37..39], [1, 0], "clock 1 is never started");
+        });
+    }
 }
 
 /// A clock's limit that breaks a MAINTAIN at the very reading for which a WAIT inside it waits.

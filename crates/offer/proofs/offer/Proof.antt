@@ -1,6 +1,6 @@
 -- `offer` meets its contract: a refused offer writes nothing, and any other is made.
 use borrow.Author.Needs.{needs}
-use Rattle.table.proofs.Operations.{not-refused}
+use Rattle.meaning.proofs.Answers.{not-refused}
 use Rattle.offer.proofs.Offering.{offer-refused, offer-made}
 use Rattle.offer.proofs.offer.Statement.{statement}
 use Rattle.offer.proofs.offer.Tie as tie
@@ -15,13 +15,13 @@ enum-told : tie.Need-enum-told
 enum-told c = search needs
 
 make-requires : tie.Need-make-requires
-make-requires c κs = not-refused _ _ (c .before .before .before .before .refusal .ensures) (c .before .before .enum-told .given .1)
+make-requires c κs = search not-refused
 
 same-length : tie.Need-same-length
 same-length c = search needs
 
 returns : tie.Need-returns
-returns c = offer-refused _ _ _ _ _ _ (c .before .before .before .refusal .ensures) (c .before .answer .given .1)
+returns c = search offer-refused
 
 same-length-2 : tie.Need-same-length-2
 same-length-2 c = search needs
@@ -30,10 +30,7 @@ same-length-3 : tie.Need-same-length-3
 same-length-3 c = search needs
 
 returns-2 : tie.Need-returns-2
-returns-2 c =
-    let m = c .before .before .before .before in
-    let e = m .before .before .before in
-    offer-made _ _ _ _ _ _ _ (not-refused _ _ (e .before .before .refusal .ensures) (e .enum-told .given .1)) (m .make .ensures .0) (m .make .ensures .1 .0) (m .make .ensures .1 .1)
+returns-2 c = search (offer-made, not-refused)
 
 pub offer-spec : {M : Type 1} → statement M
 offer-spec =

@@ -14,18 +14,16 @@ enum-told-2 : tie.Need-enum-told-2
 enum-told-2 c = search needs
 
 returns : tie.Need-returns
-returns c = judged-early _ _ _ _ _ _ (c .before .before .refused .ensures) (c .enum-told2 .given .1)
+returns c = search judged-early
 
 settle-marks-requires : tie.Need-settle-marks-requires
-settle-marks-requires c κs = is-table _ _ _ _ (c .before .before .before .refused .ensures) (c .before .enum-told .given .1)
+settle-marks-requires c κs = search is-table
 
 at-requires : tie.Need-at-requires
 at-requires c κs = search needs
 
 works-requires : tie.Need-works-requires
-works-requires c κs =
-    let told = c .before .before .before .before .before .before .before in
-    is-table _ _ _ _ (told .before .before .refused .ensures) (told .enum-told .given .1)
+works-requires c κs = search is-table
 
 same-length : tie.Need-same-length
 same-length c = search needs

@@ -1,5 +1,6 @@
 -- `compile` meets its contract: one law of Operations for each answer.
-use Rattle.table.proofs.Operations.{not-refused, read-refused, read-short, read-done}
+use Rattle.meaning.proofs.Answers.{not-refused}
+use Rattle.table.proofs.Operations.{read-refused, read-short, read-done}
 use borrow.Author.Needs.{needs}
 use Rattle.table.proofs.compile.Statement.{statement}
 use Rattle.table.proofs.compile.Tie as tie

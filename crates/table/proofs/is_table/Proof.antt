@@ -1,7 +1,8 @@
 -- `is_table` meets its contract: the rows match exactly where the bytes are the table of the program that they hold.
 use mathlib.Core.Path.{refl}
 use Rattle.meaning.specs.declared.Form.the-variants.{Table}
-use Rattle.table.proofs.Operations.{not-refused, program-stands, table-refused, table-matched}
+use Rattle.meaning.proofs.Answers.{not-refused}
+use Rattle.table.proofs.Operations.{program-stands, table-refused, table-matched}
 use borrow.Author.Needs.{needs}
 use Rattle.table.proofs.is_table.Statement.{statement}
 use Rattle.table.proofs.is_table.Tie as tie

@@ -1,0 +1,49 @@
+-- What the entries of a table satisfy, and how many goal bytes they give.
+use Prim.Native.Nat.{ℕ, zero, suc, _+_, _≤_, _<_}
+use native.Mathlib.Nat.{zero-add, add-zero, add-suc, suc-add}
+use native.Mathlib.Omega.{arith}
+use mathlib.Core.Path.{_≡_}
+use mathlib.Core.Bool.{Bool, true, _&&_}
+use mathlib.Core.List.{List}
+use lib.Dec.{eqb, leb, ltb}
+use lib.ListN.{length}
+use borrow.Author.Tests.{eqb-true, leb-true, ltb-true}
+use Rattle.base.specs.Lists.{all}
+use Rattle.base.proofs.Lists.{and-left, and-right, length-tabulate}
+use Rattle.meaning.specs.declared.Entry.{Entry}
+use Rattle.meaning.specs.declared.Form.the-variants.{Table}
+use Rattle.meaning.specs.Sizes.{maxValue}
+use Rattle.meaning.specs.Kinds.{GOAL, kindOf, numberOf, value, goalAllowed, operandAllowed}
+use Rattle.meaning.specs.Program.{parts, variables, clocks, entryAt, entriesFrom, entries, allowedEntry}
+use Rattle.meaning.specs.Table.{isTable}
+use Rattle.meaning.specs.Cycle.{isKind, valuesFor, goalByte, goalBytes}
+use Rattle.meaning.proofs.Tables.{table-held}
+
+-- a test that all entries pass, each part's entry passes
+entry-passes : (f : Entry → Bool) (t : List ℕ) (n m i : ℕ) → all f (entriesFrom Table t n m) ≡ true → i < m → f (entryAt Table t (n + i)) ≡ true
+unfolding entriesFrom
+entry-passes f t n zero i h l = absurd (omega arith)
+entry-passes f t n (suc m) zero h l = rw add-zero (and-left (f (entryAt Table t n)) (all f (entriesFrom Table t (suc n) m)) h)
+entry-passes f t n (suc m) (suc i) h l =
+    rw (add-suc n i, ← (suc-add n i)) (entry-passes f t (suc n) m i (and-right (f (entryAt Table t n)) (all f (entriesFrom Table t (suc n) m)) h) (omega arith))
+
+-- each entry of a table is allowed
+pub entry-allowed : (t : List ℕ) → isTable t ≡ true → (p : ℕ) → p < parts t → allowedEntry (variables t) (clocks t) (entryAt Table t p) ≡ true
+unfolding entries
+entry-allowed t h p l =
+    let (q, held, e) = table-held t h in
+    rw zero-add at (entry-passes (allowedEntry (variables t) (clocks t)) t 0 (parts t) p (rw (held .entries-are) (held .within .entries-allowed)) l)
+
+-- an allowed GOAL names a variable of the program and a value of at most 250, so that no goal byte is taken for another
+pub goal-fits : (v k : ℕ) (e : Entry) → allowedEntry v k e ≡ true → isKind GOAL e ≡ true → (e .operand .b1 < v) × (value (e .operand) ≤ maxValue)
+unfolding allowedEntry operandAllowed goalAllowed kindOf numberOf
+goal-fits v k e a g =
+    let is-goal : e .kind ≡ 1 = eqb-true (e .kind) 1 g in
+    let allowed : (eqb (e .operand .b0) 0 && (ltb (e .operand .b1) v && leb (value (e .operand)) maxValue)) ≡ true = rw is-goal at a in
+    let named = and-right (eqb (e .operand .b0) 0) (ltb (e .operand .b1) v && leb (value (e .operand)) maxValue) allowed in
+    (ltb-true (e .operand .b1) v (and-left (ltb (e .operand .b1) v) (leb (value (e .operand)) maxValue) named), leb-true (value (e .operand)) maxValue (and-right (ltb (e .operand .b1) v) (leb (value (e .operand)) maxValue) named))
+
+-- one goal byte a variable
+pub length-goals : (v : ℕ) (es : List Entry) → length (goalBytes v es) ≡ v
+unfolding goalBytes
+length-goals v es = length-tabulate (λ u. goalByte (valuesFor u es)) 0 v

@@ -1,0 +1,11 @@
+-- The tests that an offer and a settling begin with.
+use Prim.Native.Nat.{ℕ}
+use mathlib.Core.Bool.{Bool, not}
+use mathlib.Core.List.{List, [], _∷_}
+use lib.Dec.{eqb}
+use Rattle.meaning.specs.Table.{isTable}
+use Rattle.meaning.specs.Record.{phaseOf, finished, recordAllowed}
+
+-- a table, a record that a run of it may have, and a run that is not over
+abbrev pub runTests : List ℕ → List ℕ → List (ℕ × Bool)
+runTests t r = (9, isTable t) ∷ (10, recordAllowed t r) ∷ (14, not (eqb (phaseOf r) finished)) ∷ []
