@@ -119,12 +119,12 @@ pub reached-none : (levels : ℕ) (p : Part) (n : ℕ) → levels ≡ 0 → TooD
 unfolding reached
 reached-none levels p n e = rw (e, depth-law p, leb·suc-zero (largest (map depth (children p))))
 
--- What the walk's answer says of the part's depth
-reached-depth : (x : Bool) (e n : ℕ) → (End e ≡ cond x (End n) TooDeep → x ≡ true) × (TooDeep ≡ cond x (End n) TooDeep → x ≡ false)
-reached-depth true e n = (λ r. refl, λ r. cc)
-reached-depth false e n = (λ r. cc, λ r. refl)
+-- What the walk's answer says of the part's depth and of its end
+reached-depth : (x : Bool) (e n : ℕ) → (End e ≡ cond x (End n) TooDeep → (x ≡ true) × (e ≡ n)) × (TooDeep ≡ cond x (End n) TooDeep → x ≡ false)
+reached-depth true e n = (λ r. (refl, cc), λ r. cc)
+reached-depth false e n = (λ r. (cc, cc), λ r. refl)
 
-pub reached-shallow : (levels : ℕ) (p : Part) (n e : ℕ) → End e ≡ reached levels p n → leb (depth p) levels ≡ true
+pub reached-shallow : (levels : ℕ) (p : Part) (n e : ℕ) → End e ≡ reached levels p n → (leb (depth p) levels ≡ true) × (e ≡ n + size p)
 unfolding reached
 reached-shallow levels p n e r = reached-depth (leb (depth p) levels) e (n + size p) .0 r
 

@@ -97,8 +97,8 @@ fn operand_at(s: &[u8], i: usize) -> Operand
     }
 }
 
-// What s holds of part p.
-pub fn entry_at(s: &[u8], form: Form, p: Number) -> Entry
+// What s holds of part p. The walker reads with it, and nothing else does.
+pub(crate) fn read_entry(s: &[u8], form: Form, p: Number) -> Entry
     ensures { λ r. ⌜ r ≡ entryAt form (now (s .entry)) p ⌝ }
 {
     let n = parts(s);

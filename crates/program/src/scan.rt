@@ -1,12 +1,12 @@
 // The tests that go over all parts in turn: refusals 4 and 5, and the count by which the entries
 // form exactly one tree.
 use crate::held::clocks;
-use crate::held::entry_at;
 use crate::held::parts;
 use crate::held::variables;
 use crate::kinds::arity;
 use crate::kinds::is_allowed;
 use crate::kinds::is_known;
+use crate::walker::entry_at;
 use base::wide;
 use meaning::Form;
 ghost use mathlib.Core.Path.{_≡_};

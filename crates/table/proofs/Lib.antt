@@ -1,4 +1,3 @@
-pub mod Linking
 pub mod Matches
 pub mod Writes
 pub mod TableRows

@@ -25,15 +25,15 @@ use Rattle.meaning.specs.Answers.{answerNumber}
 use Rattle.meaning.proofs.Answers.{is-refused}
 use Rattle.meaning.proofs.Files.{Holds, accepted, length-entries, sizes-back}
 use Rattle.meaning.proofs.Tables.{rows-entries, length-rows, compiled-is, table-checked}
-use Rattle.program.specs.Walk.{Stands, partAt}
-use Rattle.program.proofs.Standing.{Alone, alone, alone-stands, alone-part}
-use Rattle.table.specs.Links.{rowsFrom, every, rowMatches}
+use Rattle.program.specs.Walk.{partAt, linksOf, Linked}
+use Rattle.program.proofs.Standing.{Alone, alone, alone-part}
+use Rattle.table.specs.Links.{rowsFrom, tableFrom, every, rowMatches}
 use Rattle.table.proofs.TableRows.{rows-from, rows-match}
 
 -- the sizes of bytes that hold a tree and its rows, from its entries and its links, are its table
-rows-table : (form : Form) (s : List ℕ) (p : Part) → Holds form s p → (zeros ls : List ℕ) → length zeros ≡ linksLength * maxParts → ls ≡ sets zeros 0 (flat linkBytes (block p .rows 0 noPart noPart))
-    → bytesAt s 0 headerLength ++ rowsFrom form s ls 0 (parts s) ≡ tableOf (variables s) (clocks s) p
-unfolding tableOf
+rows-table : (form : Form) (s : List ℕ) (p : Part) → Holds form s p → (zeros ls : List ℕ) → length zeros ≡ linksLength * maxParts → ls ≡ sets zeros 0 (linksOf p)
+    → tableFrom form s ls ≡ tableOf (variables s) (clocks s) p
+unfolding tableOf tableFrom linksOf
 rows-table form s p h zeros ls l e =
     let rows : List Row = block p .rows 0 noPart noPart in
     let long : length (flat linkBytes rows) ≡ linksLength * length rows = length-pieces linkBytes linksLength (λ r. refl) rows in
@@ -52,19 +52,19 @@ module _ (form : Form) (s : List ℕ) (h : programRefusal form s ≡ 0) where
   part-there : partAt (entries form s) 0 ≡ part
   part-there = let same-tree : some (partAt (entries form s) 0) ≡ some part = sym (alone-part form s tree-alone) ∙ accepted form s h .1 in cc
 
-  -- an accepted program's root stands at its first entry
-  pub program-stands : Stands (entries form s) 0
-  program-stands = alone-stands form s tree-alone
+  -- what is written of an accepted program's sizes, entries and links is its table
+  rows-compiled : (zeros ls : List ℕ) → length zeros ≡ linksLength * maxParts → Linked form s (programRefusal form s) zeros ls → tableFrom form s ls ≡ compiled form s
+  rows-compiled zeros ls l e =
+      rows-table form s part (accepted form s h .2) zeros ls l (e .stored h ∙ ap (λ (p : Part). sets zeros 0 (linksOf p)) part-there) ∙ sym (compiled-is form s part (accepted form s h .1))
 
-  -- and what is written of its sizes, entries and links is its table
-  rows-compiled : (zeros ls : List ℕ) → length zeros ≡ linksLength * maxParts → ls ≡ sets zeros 0 (flat linkBytes (block (partAt (entries form s) 0) .rows 0 noPart noPart))
-      → bytesAt s 0 headerLength ++ rowsFrom form s ls 0 (parts s) ≡ compiled form s
-  rows-compiled zeros ls l e = rows-table form s part (accepted form s h .2) zeros ls l (rw part-there at e) ∙ sym (compiled-is form s part (accepted form s h .1))
+  pub table-compiled : (zeros ls out out₁ : List ℕ) → length zeros ≡ linksLength * maxParts → Linked form s (programRefusal form s) zeros ls → out₁ ≡ sets out 0 (tableFrom form s ls)
+      → out₁ ≡ sets out 0 (compiled form s)
+  table-compiled zeros ls out out₁ l e w = w ∙ ap (λ (t : List ℕ). sets out 0 t) (rows-compiled zeros ls l e)
 
-  pub table-written : (zeros ls out out₁ out₂ : List ℕ) → length zeros ≡ linksLength * maxParts → ls ≡ sets zeros 0 (flat linkBytes (block (partAt (entries form s) 0) .rows 0 noPart noPart))
-      → out₁ ≡ sets out 0 (bytesAt s 0 headerLength) → out₂ ≡ sets out₁ headerLength (rowsFrom form s ls 0 (parts s)) → out₂ ≡ sets out 0 (compiled form s)
-  table-written zeros ls out out₁ out₂ l e h₁ h₂ =
-      rw (h₂, h₁, ← (rows-compiled zeros ls l e)) (sets-append out 0 headerLength (bytesAt s 0 headerLength) (rowsFrom form s ls 0 (parts s)) refl)
+-- The sizes and the rows, one after the other
+pub table-written : (form : Form) (s ls out out₁ out₂ : List ℕ) → out₁ ≡ sets out 0 (bytesAt s 0 headerLength) → out₂ ≡ sets out₁ headerLength (rowsFrom form s ls 0 (parts s)) → out₂ ≡ sets out 0 (tableFrom form s ls)
+unfolding tableFrom
+table-written form s ls out out₁ out₂ h₁ h₂ = rw (h₂, h₁) (sets-append out 0 headerLength (bytesAt s 0 headerLength) (rowsFrom form s ls 0 (parts s)) refl)
 
 -- The bytes that are given back: the sizes, then the two arrays
 pub arrays-written : (t out out₁ out₂ : List ℕ) → out₁ ≡ sets out headerLength (flat kindByte (entries Table t)) → out₂ ≡ sets out₁ (headerLength + parts t) (flat entryOperand (entries Table t))
@@ -90,7 +90,8 @@ module _ (t : List ℕ) where
   table-refused a r e d = sym (table-checked t ∙ rw (ne-eqb (programRefusal Table t) 0 (is-refused a r (programRefusal Table t) e d)))
 
   pub table-matched : (zeros ls : List ℕ) (r : Bool) → programRefusal Table t ≡ 0 → length zeros ≡ linksLength * maxParts
-      → ls ≡ sets zeros 0 (flat linkBytes (block (partAt (entries Table t) 0) .rows 0 noPart noPart)) → r ≡ every (rowMatches t ls) 0 (parts t) → r ≡ isTable t
+      → Linked Table t (programRefusal Table t) zeros ls → r ≡ every (rowMatches t ls) 0 (parts t) → r ≡ isTable t
+  unfolding tableFrom
   table-matched zeros ls r h l e m =
       let long : length t ≡ lengthOf Table (parts t) = accepted Table t h .2 .length-is in
       let X : List ℕ = bytesAt t 0 headerLength in

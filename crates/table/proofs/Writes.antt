@@ -1,9 +1,7 @@
--- Laws behind the links and the rows that the code stores.
-use Prim.Native.Nat.{ℕ, zero, suc, _+_, _*_, _-_, _<_, _≤_}
+-- Laws behind the rows that the code stores.
+use Prim.Native.Nat.{ℕ, _+_, _*_, _-_, _<_, _≤_}
 use mathlib.Core.Path.{_≡_, refl, ap, _∙_}
-use mathlib.Core.Bool.{Bool, true, false}
 use mathlib.Core.List.{List, [], _∷_}
-use native.Mathlib.Nat.{mod-eq-of-lt}
 use native.Mathlib.Numerals.{add-one, add-two, add-three}
 use native.Mathlib.Omega.{arith}
 use lib.ListN.{length, drop, set}
@@ -13,49 +11,14 @@ use Rattle.base.proofs.Stores.{sets-append, sets-three, stores-step, stores-end
 use Rattle.meaning.specs.declared.Operand.{Operand}
 use Rattle.meaning.specs.declared.Entry.{Entry}
 use Rattle.meaning.specs.declared.Form.{Form}
-use Rattle.meaning.specs.Sizes.{noPart, numberBytes, bytesAt, linksLength, headerLength, rowLength}
-use Rattle.meaning.specs.Kinds.{kindOf}
+use Rattle.meaning.specs.Sizes.{bytesAt, linksLength, headerLength, rowLength}
 use Rattle.meaning.specs.declared.Form.the-variants.{Table}
 use Rattle.meaning.specs.Program.{parts, operandBytes, entryAt, entries, kindByte, entryOperand}
 use Rattle.program.proofs.Entries.{entries-next, entries-past}
-use Rattle.meaning.specs.Table.{nextOf}
-use Rattle.table.specs.Links.{links, rowFrom, rowsFrom}
-
--- a number below 256 is its own byte
-pub number-stored : (l m : List ℕ) (i x : ℕ) → x < 256 → m ≡ set l i x → m ≡ sets l i (numberBytes x)
-number-stored l m i x h e = rw (mod-eq-of-lt h) e
-
-pub links-stored : (l l₁ l₂ m : List ℕ) (q k e p n : ℕ) → k ≡ q → l₁ ≡ sets l (3 * k) (numberBytes e) → l₂ ≡ sets l₁ (3 * k + 1) (numberBytes p) → m ≡ sets l₂ (3 * k + 2) (numberBytes n) → m ≡ sets l (linksLength * q) (links e p n)
-links-stored l l₁ l₂ m q k e p n eq e₁ e₂ e₃ = rw (e₃, e₂, e₁, eq) (sets-three l (3 * q) (3 * q + 1) (3 * q + 2) (numberBytes e) (numberBytes p) (numberBytes n) refl (omega arith))
+use Rattle.table.specs.Links.{rowFrom, rowsFrom}
 
 pub operand-stored : (l l₁ l₂ l₃ m : List ℕ) (i : ℕ) (o : Operand) → l₁ ≡ set l i (o .b0) → l₂ ≡ set l₁ (i + 1) (o .b1) → l₃ ≡ set l₂ (i + 2) (o .b2) → m ≡ set l₃ (i + 3) (o .b3) → m ≡ sets l i (operandBytes o)
 operand-stored l l₁ l₂ l₃ m i o e₁ e₂ e₃ e₄ = rw (e₄, e₃, e₂, e₁, add-one, add-two, add-three)
-
--- the next of a child, by the parent's kind
-pub next-seq : (b q e : ℕ) (follows : Bool) → b ≡ 4 → follows ≡ true → e ≡ nextOf (kindOf b) q e follows
-unfolding nextOf kindOf
-next-seq b q e follows h t = rw (h, t)
-
-pub next-last : (b q e : ℕ) (follows : Bool) → b ≡ 4 → follows ≡ false → noPart ≡ nextOf (kindOf b) q e follows
-unfolding nextOf kindOf
-next-last b q e follows h t = rw (h, t)
-
-pub next-repeat : (b q e : ℕ) (follows : Bool) → b ≡ 8 → q ≡ nextOf (kindOf b) q e follows
-unfolding nextOf kindOf
-next-repeat b q e follows h = rw h
-
-pub next-none : (b q e : ℕ) (follows : Bool) → (b ≡ 4 → ⊥) → (b ≡ 8 → ⊥) → noPart ≡ nextOf (kindOf b) q e follows
-unfolding nextOf kindOf
-next-none zero q e follows h k = refl
-next-none (suc zero) q e follows h k = refl
-next-none (suc (suc zero)) q e follows h k = refl
-next-none (suc (suc (suc zero))) q e follows h k = refl
-next-none (suc (suc (suc (suc zero)))) q e follows h k = absurd (h refl)
-next-none (suc (suc (suc (suc (suc zero))))) q e follows h k = refl
-next-none (suc (suc (suc (suc (suc (suc zero)))))) q e follows h k = refl
-next-none (suc (suc (suc (suc (suc (suc (suc zero))))))) q e follows h k = refl
-next-none (suc (suc (suc (suc (suc (suc (suc (suc zero)))))))) q e follows h k = absurd (k refl)
-next-none (suc (suc (suc (suc (suc (suc (suc (suc (suc b))))))))) q e follows h k = refl
 
 pub row-stored : (form : Form) (s ls l l₁ l₂ m : List ℕ) (p k : ℕ) (e : Entry) → e ≡ entryAt form s p → k ≡ p → l₁ ≡ set l (3 + 8 * k) (e .kind) → l₂ ≡ sets l₁ (3 + 8 * k + 1) (bytesAt ls (3 * k) linksLength) → m ≡ sets l₂ (3 + 8 * k + 4) (operandBytes (e .operand)) → m ≡ sets l (headerLength + rowLength * p) (rowFrom (entryAt form s p) ls p)
 unfolding rowFrom

@@ -1,23 +1,14 @@
--- What the code writes of links and rows, in the terms of the location table.
+-- What the code writes of rows, from a program's entries and the links that its walk has left.
 use Prim.Native.Nat.{ℕ, suc, zero, _+_, _*_}
 use mathlib.Core.Bool.{Bool, true, _&&_}
-use mathlib.Core.List.{List, [], _∷_, _++_, map}
+use mathlib.Core.List.{List, [], _∷_, _++_}
 use lib.Dec.{eqb}
 use lib.ListN.{getD}
 use Rattle.meaning.specs.declared.Entry.{Entry}
 use Rattle.meaning.specs.declared.Form.{Form}
 use Rattle.meaning.specs.declared.Form.the-variants.{Table}
-use Rattle.meaning.specs.Sizes.{headerLength, rowLength, linksLength, numberBytes, bytesAt}
-use Rattle.meaning.specs.Tree.{Part, kind, children}
-use Rattle.meaning.specs.Program.{operandBytes, entryAt}
-use Rattle.meaning.specs.Table.{Row, block, siblings}
-
--- the rows of all parts inside part p
-unfoldable pub inner : Part → ℕ → List Row
-inner t p = siblings (kind t) p (suc p) (map block (children t))
-
-abbrev pub links : ℕ → ℕ → ℕ → List ℕ
-links e p n = numberBytes e ++ (numberBytes p ++ numberBytes n)
+use Rattle.meaning.specs.Sizes.{headerLength, rowLength, linksLength, bytesAt}
+use Rattle.meaning.specs.Program.{parts, operandBytes, entryAt}
 
 -- row p, of the part's entry and of the links that stand in a buffer
 unfoldable pub rowFrom : Entry → List ℕ → ℕ → List ℕ
@@ -26,6 +17,10 @@ rowFrom e ls p = e .kind ∷ (bytesAt ls (linksLength * p) linksLength ++ operan
 unfoldable pub rowsFrom : Form → List ℕ → List ℕ → ℕ → ℕ → List ℕ
 rowsFrom form s ls p zero = []
 rowsFrom form s ls p (suc n) = rowFrom (entryAt form s p) ls p ++ rowsFrom form s ls (suc p) n
+
+-- the sizes and all rows
+unfoldable pub tableFrom : Form → List ℕ → List ℕ → List ℕ
+tableFrom form s ls = bytesAt s 0 headerLength ++ rowsFrom form s ls 0 (parts s)
 
 abbrev pub every : (ℕ → Bool) → ℕ → ℕ → Bool
 every f i zero = true

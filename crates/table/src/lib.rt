@@ -1,10 +1,8 @@
 // The location table of a program: written from a program file, given back as one, and checked.
 pub mod arrays;
-pub mod links;
 pub mod rows;
 
 use crate::arrays::write_arrays;
-use crate::links::link_all;
 use crate::rows::rows_match;
 use crate::rows::write_rows;
 use base::copy;
@@ -20,23 +18,24 @@ ghost use mathlib.Core.Path.{_≡_};
 ghost use lib.ListN.{length};
 ghost use lib.Seq.{sets};
 ghost use Rattle.meaning.specs.declared.Form.the-variants.{File};
-ghost use Rattle.meaning.specs.Program.{programRefusal};
-ghost use Rattle.meaning.specs.Table.{compiled, fileIn, isTable, tableRefusal, readRefusal, readInto, writeRefusal, writtenInto};
+ghost use Rattle.meaning.specs.Table.{fileIn, isTable, tableRefusal, readRefusal, readInto, writeRefusal, writtenInto};
 ghost use Rattle.meaning.specs.Answers.{answerNumber};
+ghost use Rattle.table.specs.Links.{tableFrom};
 
 // Reads a program file into its location table: refusals 1 to 7, then 8.
 pub fn compile(file: &[u8], table: &mut [u8]) -> Answer
     ensures { λ r. ⌜ answerNumber r ≡ readRefusal (now (file .entry)) (length (now (table .entry))) ⌝ }
     ensures { λ _. ⌜ now (table .exit) ≡ readInto (now (file .entry)) (now (table .entry)) ⌝ }
 {
-    let answer = examine(file, Form::File);
+    let mut links = [0u8; MAX_LINKS];
+    let answer = examine(file, Form::File, &mut links);
     let Answer::Done = answer else {
         return answer;
     };
     if table.len() < length_of(Form::Table, parts(file)) {
         return Answer::Refused(Refusal::BufferTooShort);
     }
-    write_table(file, table);
+    write_table(file, &links, table);
     Answer::Done
 }
 
@@ -70,24 +69,20 @@ pub fn check(table: &[u8]) -> Answer
 pub fn is_table(table: &[u8]) -> bool
     ensures { λ r. ⌜ r ≡ isTable (now (table .entry)) ⌝ }
 {
-    let answer = examine(table, Form::Table);
+    let mut links = [0u8; MAX_LINKS];
+    let answer = examine(table, Form::Table, &mut links);
     let Answer::Done = answer else {
         return false;
     };
-    let mut links = [0u8; MAX_LINKS];
-    link_all(table, Form::Table, &mut links);
     rows_match(table, &links)
 }
 
-// Writes the table of the program that a file holds.
-fn write_table(file: &[u8], table: &mut [u8])
-    requires { ⌜ programRefusal File (now file) ≡ 0 ⌝ }
-    ensures { λ _. ⌜ now (table .exit) ≡ sets (now (table .entry)) 0 (compiled File (now (file .entry))) ⌝ }
+// Writes a table of a file's sizes and entries and of links.
+fn write_table(file: &[u8], links: &[u8], table: &mut [u8])
+    ensures { λ _. ⌜ now (table .exit) ≡ sets (now (table .entry)) 0 (tableFrom File (now (file .entry)) (now (links .entry))) ⌝ }
 {
-    let mut links = [0u8; MAX_LINKS];
-    link_all(file, Form::File, &mut links);
     copy(file, 0, table, 0, HEADER);
-    write_rows(file, Form::File, &links, table);
+    write_rows(file, Form::File, links, table);
 }
 
 // Writes the file that a table holds.

@@ -1,7 +1,7 @@
 -- `next_of` meets its contract: each arm gives what `nextOf` says of the kinds that lead there.
-use Rattle.table.proofs.Writes.{next-seq, next-last, next-repeat, next-none}
-use Rattle.table.proofs.links.next_of.Statement.{statement}
-use Rattle.table.proofs.links.next_of.Tie as tie
+use Rattle.program.proofs.Storing.{next-seq, next-last, next-repeat, next-none}
+use Rattle.program.proofs.links.next_of.Statement.{statement}
+use Rattle.program.proofs.links.next_of.Tie as tie
 
 returns : tie.Need-returns
 returns c = search next-seq

@@ -1,8 +1,8 @@
 -- `put_links` meets its contract: its three runs of stores meet, so they are one run of the three numbers' bytes.
 use borrow.Author.Needs.{needs}
-use Rattle.table.proofs.Writes.{links-stored}
-use Rattle.table.proofs.links.put_links.Statement.{statement}
-use Rattle.table.proofs.links.put_links.Tie as tie
+use Rattle.program.proofs.Storing.{links-stored}
+use Rattle.program.proofs.links.put_links.Statement.{statement}
+use Rattle.program.proofs.links.put_links.Tie as tie
 
 wide-requires : tie.Need-wide-requires
 wide-requires c κs = search needs

@@ -3,9 +3,9 @@ use Prim.Native.Nat.{ℕ, suc, _+_, _-_, _*_, _≤_, _<_}
 use native.Mathlib.Omega.{arith}
 use native.Mathlib.Numerals.{add-one}
 use mathlib.Core.Path.{_≡_, refl, sym, ap, _∙_}
-use mathlib.Core.Bool.{Bool}
+use mathlib.Core.Bool.{Bool, true}
 use mathlib.Core.List.{List, [], _∷_, _++_, map}
-use lib.Dec.{ltb}
+use lib.Dec.{leb, ltb}
 use lib.ListN.{length}
 use lib.Seq.{sets}
 use borrow.Author.Tests.{lt-ltb, le-ltb}
@@ -16,14 +16,15 @@ use Rattle.meaning.specs.declared.Entry.{Entry}
 use Rattle.meaning.specs.declared.Form.{Form}
 use Rattle.meaning.specs.Sizes.{noPart, linksLength}
 use Rattle.meaning.specs.Kinds.{Kind, kindOf}
-use Rattle.meaning.specs.Tree.{Part, kind, children, size}
+use Rattle.meaning.specs.Tree.{Part, kind, children, size, depth}
 use Rattle.meaning.specs.Program.{parts, entries, entryAt, arityOf}
 use Rattle.meaning.specs.Table.{Row, linkBytes, nextOf, siblings, block}
 use Rattle.meaning.proofs.Trees.{size-law, block-parts, rows-law}
 use Rattle.meaning.proofs.Tables.{length-rows}
-use Rattle.program.specs.Walk.{Stands, partAt}
-use Rattle.table.specs.Links.{inner, links}
+use Rattle.program.specs.Walk.{Stands, partAt, reached, links, inner, linksOf, LinksInside, LinksAll}
+use Rattle.program.specs.declared.walk.Extent.the-variants.{End, TooDeep}
+use Rattle.program.proofs.Reaching.{reached-shallow, reached-deep}
 use Rattle.program.proofs.Standing.{Left, First, stands-entry, left-first, left-head, left-more, head-stands, head-part, part-is}
 
 -- a part has a row for itself and one for each part inside it
 inner-long : (p : Part) (n : ℕ) → suc (length (inner p n)) ≡ size p
@@ -118,11 +119,16 @@ module _ (es : List Entry) (k : Kind) (n q due : ℕ) (out whole : List ℕ) (en
         ends = omega (arith, ap (λ (ps : List Part). sum (map size ps)) (first .are), w .ends);
       }
 
-  -- a child is linked: what is inside it, then itself
-  pub linking-more : (e next : ℕ) (follows : Bool) (out₁ out₂ : List ℕ) → e ≡ endOf es q → out₁ ≡ linked es q out → follows ≡ ltb 1 due → next ≡ nextOf k q e follows
+  linking-more : (e next : ℕ) (follows : Bool) (out₁ out₂ : List ℕ) → e ≡ endOf es q → out₁ ≡ linked es q out → follows ≡ ltb 1 due → next ≡ nextOf k q e follows
       → out₂ ≡ sets out₁ (linksLength * q) (links e n next) → Linking es k n e (due - 1) out₂ whole end
   linking-more e next follows out₁ out₂ he h₁ hf hn h₂ =
       rw (h₂, hn, h₁, he, head-part es q due (w .left) first, hf, follows-is) linking-next
+
+  -- a child that is not too deep is linked: what is inside it, then itself
+  pub linking-child : (levels e next : ℕ) (follows : Bool) (out₁ out₂ : List ℕ) → End e ≡ reached levels (partAt es q) q → LinksInside levels (partAt es q) q out out₁ → follows ≡ ltb 1 due → next ≡ nextOf k q e follows
+      → out₂ ≡ sets out₁ (linksLength * q) (links e n next) → Linking es k n e (due - 1) out₂ whole end
+  linking-child levels e next follows out₁ out₂ r h₁ =
+      let d = reached-shallow levels (partAt es q) q e r in linking-more e next follows out₁ out₂ (d .1) (h₁ .stored (d .0))
 
 pub linking-end : (es : List Entry) (k : Kind) (n q due : ℕ) (out whole : List ℕ) (end : ℕ) → Linking es k n q due out whole end → due ≤ 0 → (q ≡ end) × (out ≡ whole)
 linking-end es k n q due out whole end w h = go (w .left .parts) refl
@@ -134,9 +140,25 @@ linking-end es k n q due out whole end w h = go (w .left .parts) refl
     )
     go (p ∷ ps) e = absurd (omega (arith, w .left .many ∙ ap length e))
 
+-- Of a part that is too deep nothing is said
+module _ (levels : ℕ) (p : Part) (n : ℕ) (out out₁ : List ℕ) (d : TooDeep ≡ reached levels p n) where
+  too-deep : leb (depth p) levels ≡ true → ⊥
+  too-deep t = let z : _≡_ {A = ℕ} 0 1 = cc (reached-deep levels p n d, t) in omega arith
+
+  pub deep-unlinked : LinksInside levels p n out out₁
+  deep-unlinked = record { stored = λ t. absurd (too-deep t) }
+
+  pub deep-none : LinksAll levels p out out₁
+  deep-none = record { stored = λ t. absurd (too-deep t) }
+
 -- The links of the root after those of the parts inside it
-pub linking-root : (p : Part) (e : ℕ) (out out₁ out₂ : List ℕ) → e ≡ 0 + size p → out₁ ≡ sets out (linksLength * (0 + 1)) (flat linkBytes (inner p 0)) → out₂ ≡ sets out₁ (linksLength * 0) (links e noPart noPart)
-    → out₂ ≡ sets out 0 (flat linkBytes (block p .rows 0 noPart noPart))
-unfolding inner
+linking-root : (p : Part) (e : ℕ) (out out₁ out₂ : List ℕ) → e ≡ 0 + size p → out₁ ≡ sets out (linksLength * (0 + 1)) (flat linkBytes (inner p 0)) → out₂ ≡ sets out₁ (linksLength * 0) (links e noPart noPart)
+    → out₂ ≡ sets out 0 (linksOf p)
+unfolding inner linksOf
 linking-root p e out out₁ out₂ he h₁ h₂ =
     rw (h₂, h₁, he, rows-law p 0 noPart noPart) (sets-before out 0 linksLength (links (0 + size p) noPart noPart) (flat linkBytes (inner p 0)) refl)
+
+pub links-all : (levels : ℕ) (p : Part) (e : ℕ) (out out₁ out₂ : List ℕ) → End e ≡ reached levels p 0 → LinksInside levels p 0 out out₁ → out₂ ≡ sets out₁ (linksLength * 0) (links e noPart noPart)
+    → LinksAll levels p out out₂
+links-all levels p e out out₁ out₂ r h₁ h₂ =
+    let d = reached-shallow levels p 0 e r in record { stored = λ t. linking-root p e out out₁ out₂ (d .1) (h₁ .stored t) h₂ }

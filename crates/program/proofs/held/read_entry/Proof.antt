@@ -1,8 +1,8 @@
--- `entry_at` meets its contract: the kind byte and the operand are read where the program holds them, which is near enough for their places to be numbers.
+-- `read_entry` meets its contract: the kind byte and the operand are read where the program holds them, which is near enough for their places to be numbers.
 use borrow.Author.Needs.{needs}
 use Rattle.program.proofs.Places.{operand-near, entry-held}
-use Rattle.program.proofs.held.entry_at.Statement.{statement}
-use Rattle.program.proofs.held.entry_at.Tie as tie
+use Rattle.program.proofs.held.read_entry.Statement.{statement}
+use Rattle.program.proofs.held.read_entry.Tie as tie
 
 parts-requires : tie.Need-parts-requires
 parts-requires c κs = search needs
@@ -22,8 +22,8 @@ operand-at-requires c κs = search (operand-near, needs)
 returns : tie.Need-returns
 returns c = search entry-held
 
-pub entry-at-spec : {M : Type 1} → statement M
-entry-at-spec =
+pub read-entry-spec : {M : Type 1} → statement M
+read-entry-spec =
     tie.close
     (tie.spec
     parts-requires

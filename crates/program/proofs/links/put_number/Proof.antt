@@ -1,8 +1,8 @@
 -- `put_number` meets its contract: a number that fits a byte is the one byte of its little-endian form.
 use borrow.Author.Needs.{needs}
-use Rattle.table.proofs.Writes.{number-stored}
-use Rattle.table.proofs.links.put_number.Statement.{statement}
-use Rattle.table.proofs.links.put_number.Tie as tie
+use Rattle.program.proofs.Storing.{number-stored}
+use Rattle.program.proofs.links.put_number.Statement.{statement}
+use Rattle.program.proofs.links.put_number.Tie as tie
 
 put-requires : tie.Need-put-requires
 put-requires c κs = search needs
