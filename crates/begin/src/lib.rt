@@ -2,6 +2,7 @@
 pub mod initialise;
 
 use crate::initialise::initialise;
+use allowed::values::estimate_allowed;
 use base::copy;
 use base::fill;
 use meaning::Answer;
@@ -9,7 +10,6 @@ use meaning::Refusal;
 use meaning::sizes::ESTIMATE_PLACE;
 use meaning::sizes::MARKS_PLACE;
 use meaning::sizes::RECORD;
-use record::values::estimate_allowed;
 use table::is_table;
 ghost use mathlib.Core.Path.{_≡_};
 ghost use lib.ListN.{length};

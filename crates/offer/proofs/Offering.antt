@@ -26,7 +26,7 @@ use Rattle.meaning.proofs.Answers.{is-refused, refused-before, left-open}
 use Rattle.meaning.proofs.Records.{length-checked}
 use Rattle.meaning.proofs.Tables.{table-held}
 use Rattle.meaning.proofs.Entries.{length-goals}
-use Rattle.record.specs.Running.{runTests}
+use Rattle.allowed.specs.Running.{runTests}
 use Rattle.offer.specs.Turns.{judging}
 use Rattle.offer.specs.Raised.{lowestContested}
 use Rattle.offer.proofs.Checking.{judging-same}

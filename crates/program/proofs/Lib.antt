@@ -1,11 +1,10 @@
-pub mod Places
-pub mod KindBytes
 pub mod Entries
 pub mod Scans
 pub mod Counting
 pub mod Standing
 pub mod Storing
 pub mod Numbers
+pub mod Machine
 pub mod Reaching
 pub mod Linking
 pub mod Refusals

@@ -1,15 +1,10 @@
-// Reading a program that is held in a file or in a table: its sizes and entries, and the refusals 1
-// to 7.
-pub mod held;
-pub mod kinds;
+// Reading a program that is held in a file or in a table: the walker, the one walk over its tree, and
+// the refusals 1 to 7.
 pub mod links;
 pub mod scan;
 pub mod walk;
 pub mod walker;
 
-use crate::held::length_of;
-use crate::held::parts;
-use crate::held::sizes_allowed;
 use crate::scan::is_one_tree;
 use crate::scan::kinds_known;
 use crate::scan::operands_allowed;
@@ -19,6 +14,9 @@ use meaning::Answer;
 use meaning::Form;
 use meaning::Refusal;
 use meaning::sizes::HEADER;
+use part::held::length_of;
+use part::held::parts;
+use part::held::sizes_allowed;
 ghost use mathlib.Core.Path.{_≡_};
 ghost use Rattle.base.specs.Lists.{firstFailing};
 ghost use Rattle.meaning.specs.Program.{partTests, programRefusal};

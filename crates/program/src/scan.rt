@@ -1,14 +1,14 @@
 // The tests that go over all parts in turn: refusals 4 and 5, and the count by which the entries
 // form exactly one tree.
-use crate::held::clocks;
-use crate::held::parts;
-use crate::held::variables;
-use crate::kinds::arity;
-use crate::kinds::is_allowed;
-use crate::kinds::is_known;
 use crate::walker::entry_at;
 use base::wide;
 use meaning::Form;
+use part::held::clocks;
+use part::held::parts;
+use part::held::variables;
+use part::kinds::arity;
+use part::kinds::is_allowed;
+use part::kinds::is_known;
 ghost use mathlib.Core.Path.{_≡_};
 ghost use Rattle.base.specs.Lists.{all};
 ghost use Rattle.meaning.specs.Program.{variables, clocks, entries, knownEntry, allowedEntry};

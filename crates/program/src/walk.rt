@@ -1,6 +1,5 @@
 // The walk over a tree: a part recurses into its children, which it takes from the walker. One walk
 // finds how far the parts reach and leaves their links.
-use crate::kinds::arity;
 use crate::links::next_of;
 use crate::links::put_links;
 use crate::walker::entry_at;
@@ -9,6 +8,7 @@ use meaning::Form;
 use meaning::Number;
 use meaning::sizes::MAX_DEPTH;
 use meaning::sizes::NO_PART;
+use part::kinds::arity;
 ghost use mathlib.Core.Path.{_≡_};
 ghost use Rattle.meaning.specs.Sizes.{maxDepth};
 ghost use Rattle.meaning.specs.Program.{entries};

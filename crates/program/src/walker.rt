@@ -2,12 +2,12 @@
 // above functions on slice and number: it is made at the root, stepped on, and taken apart for the
 // entry of its part (`read_entry`) and for where the part's subtree ends (`walk`). Every other caller
 // goes through `entry_at` and `root_extent`, whose parameters are plain.
-use crate::held::read_entry;
 use crate::walk::Extent;
 use crate::walk::walk;
 use meaning::Entry;
 use meaning::Form;
 use meaning::Number;
+use part::held::read_entry;
 ghost use mathlib.Core.Path.{_≡_};
 ghost use Rattle.meaning.specs.Program.{entries, entryAt};
 ghost use Rattle.program.specs.Walk.{Stands, partAt, reached, LinksInside};

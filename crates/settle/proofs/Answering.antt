@@ -24,7 +24,7 @@ use Rattle.meaning.specs.Operations.{Settled}
 use Rattle.meaning.proofs.Answers.{not-refused, is-refused, refused-before, left-open}
 use Rattle.meaning.proofs.Records.{length-settled}
 use Rattle.meaning.proofs.Tables.{table-held, root-there}
-use Rattle.record.specs.Running.{runTests}
+use Rattle.allowed.specs.Running.{runTests}
 use Rattle.settle.specs.Answering.{laterTests, earlyTests, earlyRefusal, Judged}
 
 module _ (t r est : List ℕ) where

@@ -8,7 +8,7 @@ use Rattle.base.specs.Lists.{firstFailing, bytesAt}
 use Rattle.meaning.specs.Program.{parts}
 use Rattle.meaning.specs.Record.{phaseOf, waiting}
 use Rattle.meaning.specs.Cycle.{estimateAllowed, settledMarks, settleRefusal}
-use Rattle.record.specs.Running.{runTests}
+use Rattle.allowed.specs.Running.{runTests}
 
 -- the tests that need no marks: those of every run, then 11 and 13
 abbrev pub laterTests : List ℕ → List ℕ → List ℕ → List (ℕ × Bool)

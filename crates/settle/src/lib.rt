@@ -1,16 +1,16 @@
 // Settling: the second half of a cycle.
 pub mod clocks;
-pub mod fates;
-pub mod marks;
 pub mod works;
 
 use crate::clocks::start_clocks;
-use crate::marks::settle_marks;
 use crate::works::works;
+use allowed::examine;
+use allowed::values::estimate_allowed;
 use base::at;
 use base::copy;
 use base::put;
 use base::wide;
+use marks::settled::settle_marks;
 use meaning::Answer;
 use meaning::Refusal;
 use meaning::SettleAnswer;
@@ -19,11 +19,9 @@ use meaning::sizes::FINISHED;
 use meaning::sizes::MARKS_PLACE;
 use meaning::sizes::MAX_MARKS;
 use meaning::sizes::WAITING;
-use program::held::parts;
-use program::held::variables;
-use record::examine;
+use part::held::parts;
+use part::held::variables;
 use record::fields::phase;
-use record::values::estimate_allowed;
 ghost use mathlib.Core.Path.{_≡_};
 ghost use mathlib.Core.Bool.{true, cond};
 ghost use lib.ListN.{length};

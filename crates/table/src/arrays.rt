@@ -5,7 +5,7 @@ use base::wide;
 use meaning::Form;
 use meaning::sizes::HEADER;
 use meaning::sizes::OPERAND;
-use program::held::parts;
+use part::held::parts;
 use program::walker::entry_at;
 ghost use mathlib.Core.Path.{_≡_};
 ghost use Prim.Native.Nat.{_+_};

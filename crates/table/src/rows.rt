@@ -9,7 +9,7 @@ use meaning::Operand;
 use meaning::sizes::HEADER;
 use meaning::sizes::LINKS;
 use meaning::sizes::ROW;
-use program::held::parts;
+use part::held::parts;
 use program::walker::entry_at;
 ghost use mathlib.Core.Path.{_≡_};
 ghost use Prim.Native.Nat.{_+_, _*_, _<_};

@@ -2,7 +2,7 @@
 use native.Mathlib.Numerals.{add-one}
 use Rattle.meaning.specs.Kinds.{kindOf}
 use Rattle.meaning.specs.Cycle.{beginsIn}
-use Rattle.program.proofs.KindBytes.{no-kind}
+use Rattle.part.proofs.KindBytes.{no-kind}
 use borrow.Author.Needs.{needs}
 use Rattle.begin.proofs.initialise.begins_in.Statement.{statement}
 use Rattle.begin.proofs.initialise.begins_in.Tie as tie

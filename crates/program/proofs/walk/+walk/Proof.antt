@@ -15,7 +15,7 @@ use borrow.Fn.PlainCycle.{Measures, is, falls, and}
 use Rattle.program.proofs.walk.walk.Reads as walk
 use Rattle.program.proofs.walk.walk.Kinds as walk-kinds
 use Rattle.program.proofs.walk.+walk.Lts-walk as walk-lts
-use Rattle.program.proofs.kinds.arity.Reads as arity-reads
+use Rattle.part.proofs.kinds.arity.Reads as arity-reads
 use Rattle.program.proofs.links.next_of.Reads as next-of-reads
 use Rattle.program.proofs.links.put_links.Reads as put-links-reads
 use Rattle.program.proofs.walker.entry_at.Reads as entry-at-reads

@@ -50,6 +50,7 @@ use Rattle.program.specs.Walk.{Stands, partAt, reached, LinksInside}
 use Rattle.program.specs.declared.walk.Extent.{Extent}
 use Rattle.program.specs.declared.walker.Walker.{Walker}
 use Rattle.program.proofs.Numbers.{width, number, Held}
+use Rattle.program.proofs.Machine.{walkerVal, fileVal, formVal}
 use Rattle.program.proofs.walk.Extent as X
 use Rattle.program.proofs.walk.Extent.Laws as X′
 use Rattle.program.proofs.walker.Walker as T
@@ -85,21 +86,12 @@ module _ {M : Type 1} (𝓤 : URA M) (H : Heap 𝓤) (A : Atoms 𝓤) (W : Given
   abbrev κs : Lfts 2
   κs = (κ, (κ′, tt))
 
-  abbrev mach : Val
-  mach = T′.lowered d
-
-  -- the machine values of file, of the form and of the buffer
-  abbrev v : Val
-  v = sliceVal (d .file .ptr) (length (d .file .now))
-
-  abbrev f : Val
-  f = EL.val F.the-type F′.the-laws form
-
+  -- the machine value of the buffer
   abbrev s : Val
   s = sliceVal (x .ptr) (length (x .now))
 
   abbrev at : Vals extent.signature κs
-  at = (mach ∷ [], (f ∷ [], (s ∷ [], (vint w8 n ∷ [], tt))))
+  at = (walkerVal d ∷ [], (formVal form ∷ [], (s ∷ [], (vint w8 n ∷ [], tt))))
 
   -- what is said of the result and of the buffer's last bytes
   abbrev Found : Extent → List ℕ → Type 0
@@ -111,19 +103,19 @@ module _ {M : Type 1} (𝓤 : URA M) (H : Heap 𝓤) (A : Atoms 𝓤) (W : Given
   Post = walkOf 𝓤 H A extent.ended stayed (extent.clauses 𝓤 H A mem run) .post ((κs, (q, (q′, tt)), tt, (d, (form, (x, (n, tt)))), at), tt)
 
   abbrev Own : Fml
-  Own = B κs .own d (mach ∷ [])
+  Own = B κs .own d (walkerVal d ∷ [])
 
   abbrev vd : Values (D κs .parts)
   vd = (d .file, (d .next, tt))
 
   -- what the callee is passed
   abbrev passed : Vals tree.signature κs
-  passed = (v ∷ [], (f ∷ [], (s ∷ [], (vint width (d .next) ∷ [], (vint w8 n ∷ [], tt)))))
+  passed = (fileVal d ∷ [], (formVal form ∷ [], (s ∷ [], (vint width (d .next) ∷ [], (vint w8 n ∷ [], tt)))))
 
   abbrev to : Tree 𝓤 H A mem run .Ghost
   to = ((κs, (q, (q′, tt)), tt, (d .file, (form, (x, (d .next, (n, tt))))), passed), tt)
 
-  module _ (is-form : Is F.the-row form (f ∷ [])) where
+  module _ (is-form : Is F.the-row form (formVal form ∷ [])) where
     asked : Stands (entries form (now (d .file))) (d .next) → ent 𝓤 (onEntry 𝓤 H A tree.signature κs (q, (q′, tt)) (d .file, (form, (x, (d .next, (n, tt))))) passed) (Tree 𝓤 H A mem run .pre to)
     asked stands = qed W ((‵ (flft κ q) ⊛ ‵ (flft κ′ q′) ⊛ ‵ ftrue) ∷ ‵ (owns (ShrSlice (named 0) κ u8 ∷ F.the-row ∷ MutSlice (named 1) κ′ u8 ∷ number ∷ u8 ∷ []) (d .file, (form, (x, (d .next, (n, tt))))) passed) ∷ []) ∵ says ! stands $ frame ! $ done !
 
@@ -133,8 +125,8 @@ module _ {M : Type 1} (𝓤 : URA M) (H : Heap 𝓤) (A : Atoms 𝓤) (W : Given
         qed W ((‵ (flft κ q) ⊛ ‵ (flft κ′ q′) ⊛ ‵ ftrue) ∷ ‵ (owns (B κs ∷ F.the-row ∷ MutSlice (named 1) κ′ u8 ∷ u8 ∷ []) (d, (form, (x, (n, tt)))) at) ∷ []) ∵
         move ! (1 ∷ []) $ fsplit ! $ move ! (1 ∷ []) $ fsplit ! $ drop ! $ fsplit ! $ move ! (1 ∷ []) $ drop ! $
         -- [what the buffer owns; what the walker owns; the tokens]
-        move ! (1 ∷ []) $ use1 W (‵ Own ⊛ ‵ Own) (LL.copy (D κs) (T′.the-copy (namedLft 2 0 tt κs)) 𝓤 H A W .twice d (mach ∷ [])) $ split ! $
-        use1 W (given (mach ∷ [] ≡ mach ∷ []) (‵ (all-own (D κs .parts) (L κs) vd))) (own-open 𝓤 H A W (D κs) (L κs) vd mach) $ learn ! (λ _. use1 W (‵ (ownAt (D κs .parts) (L κs) 0 (d .file)) ⊛ ‵ (rest (D κs .parts) (L κs) 0 vd)) (own-out 𝓤 H A W (D κs .parts) (L κs) 0 vd) $ split ! $
+        move ! (1 ∷ []) $ use1 W (‵ Own ⊛ ‵ Own) (LL.copy (D κs) (T′.the-copy (namedLft 2 0 tt κs)) 𝓤 H A W .twice d (walkerVal d ∷ [])) $ split ! $
+        use1 W (given (walkerVal d ∷ [] ≡ walkerVal d ∷ []) (‵ (all-own (D κs .parts) (L κs) vd))) (own-open 𝓤 H A W (D κs) (L κs) vd (walkerVal d)) $ learn ! (λ _. use1 W (‵ (ownAt (D κs .parts) (L κs) 0 (d .file)) ⊛ ‵ (rest (D κs .parts) (L κs) 0 vd)) (own-out 𝓤 H A W (D κs .parts) (L κs) 0 vd) $ split ! $
         -- [what file owns; what next owns; what the walker owns; what the buffer owns; the tokens]
         move ! (1 ∷ []) $ drop ! $ nothing ! $ owned ! u8 (Is u8) (uint-makes 𝓤 H A W w8) n _ (refl, ok) $ fjoin ! $ owned ! number (Is number) (uint-makes 𝓤 H A W width) (d .next) _ (refl, fits) $ fjoin ! $
         move ! (3 ∷ 0 ∷ []) $ fjoin ! $ owned ! F.the-row (Is F.the-row) (EL.makes F.the-type F′.the-plain 𝓤 H A) form _ is-form $ fjoin ! $ move ! (1 ∷ 0 ∷ []) $ fjoin ! $
@@ -147,10 +139,10 @@ module _ {M : Type 1} (𝓤 : URA M) (H : Heap 𝓤) (A : Atoms 𝓤) (W : Given
         move ! (1 ∷ []) $ frame ! $ nothing ! $ owned ! u8 (Is u8) (uint-makes 𝓤 H A W w8) n _ (refl, ok) $ fjoin ! $ move ! (2 ∷ 0 ∷ []) $ fjoin ! $ owned ! F.the-row (Is F.the-row) (EL.makes F.the-type F′.the-plain 𝓤 H A) form _ is-form $ fjoin ! $ move ! (2 ∷ 0 ∷ []) $ fjoin ! $ frame ! $ done !
 
     module _ (C : Calls 𝓤 H) (Λ : Loops 𝓤 H) (fm : FmC 𝓤 H (W .laws) C) (known : Triple 𝓤 (C #program·walk·walk) (Tree 𝓤 H A mem run)) where
-      walk : Holds (hasTy (T′.mir (named 0)) mach) × WT mach → Is (MutSlice (named 1) κ′ u8) x (s ∷ []) → Stands (entries form (now (d .file))) (d .next) → ent 𝓤 (onEntry 𝓤 H A extent.signature κs (q, (q′, tt)) (d, (form, (x, (n, tt)))) at) (WpFn 𝓤 H C Λ code.function (mach ∷ f ∷ s ∷ vint w8 n ∷ []) Post)
+      walk : Holds (hasTy (T′.mir (named 0)) (walkerVal d)) × WT (walkerVal d) → Is (MutSlice (named 1) κ′ u8) x (s ∷ []) → Stands (entries form (now (d .file))) (d .next) → ent 𝓤 (onEntry 𝓤 H A extent.signature κs (q, (q′, tt)) (d, (form, (x, (n, tt)))) at) (WpFn 𝓤 H C Λ code.function (walkerVal d ∷ formVal form ∷ s ∷ vint w8 n ∷ []) Post)
       walk wt is-out stands =
           let out = mut-slice-lawful 𝓤 H A W (named 1) κ′ u8 .typed x (s ∷ []) is-out .0 in
-          qed W (raw (onEntry 𝓤 H A extent.signature κs (q, (q′, tt)) (d, (form, (x, (n, tt)))) at) ∷ []) ∵ enter ! C Λ code.function (mach ∷ f ∷ s ∷ vint w8 n ∷ []) _ $
+          qed W (raw (onEntry 𝓤 H A extent.signature κs (q, (q′, tt)) (d, (form, (x, (n, tt)))) at) ∷ []) ∵ enter ! C Λ code.function (walkerVal d ∷ formVal form ∷ s ∷ vint w8 n ∷ []) _ $
           alloc1 ! (λ l₀. alloc1 ! (λ l₁. alloc1 ! (λ l₂. alloc1 ! (λ l₃. alloc1 ! (λ l₄. alloc1 ! (λ l₅. alloc1 ! (λ l₆. alloc1 ! (λ l₇. alloc1 ! (λ l₈. alloc0 ! $ params1 ! $
           pass1 ! (init ! 14 refl wt) $ pass1 ! (init ! 12 refl (EL.lawful F.the-type F′.the-laws 𝓤 H A W tt .typed form _ is-form .0)) $ pass1 ! (init ! 10 refl out) $ pass1 ! (init ! 8 refl (tt, record { fits = ok })) $ pass0 ! $
           -- [room for _8; …; room for _7; …; room for _6; …; room for _5; …; _4; …; _3; …; _2; …; _1; …; room for _0; …; what is had on entry]

@@ -2,7 +2,7 @@
 use borrow.Author.Needs.{needs}
 use Rattle.meaning.specs.Kinds.{testOf}
 use Rattle.meaning.specs.Conditions.{outcome}
-use Rattle.program.proofs.KindBytes.{no-test}
+use Rattle.part.proofs.KindBytes.{no-test}
 use Rattle.record.proofs.Judging.{judged-at-least, judged-below}
 use Rattle.record.proofs.conditions.outcome.Statement.{statement}
 use Rattle.record.proofs.conditions.outcome.Tie as tie

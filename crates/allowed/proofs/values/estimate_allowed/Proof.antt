@@ -1,0 +1,25 @@
+-- `estimate_allowed` meets its contract: an estimate of the right length is all of the bytes that are looked at.
+use borrow.Author.Needs.{needs}
+use Rattle.allowed.proofs.Places.{estimate-made}
+use Rattle.allowed.proofs.values.estimate_allowed.Statement.{statement}
+use Rattle.allowed.proofs.values.estimate_allowed.Tie as tie
+
+variables-requires : tie.Need-variables-requires
+variables-requires c κs = search needs
+
+wide-requires : tie.Need-wide-requires
+wide-requires c κs = search needs
+
+cast-all-at-most : tie.Need-cast-all-at-most
+cast-all-at-most c = search needs
+
+all-at-most-requires : tie.Need-all-at-most-requires
+all-at-most-requires c κs = search needs
+
+returns : tie.Need-returns
+returns c = search estimate-made
+
+pub estimate-allowed-spec : {M : Type 1} → statement M
+estimate-allowed-spec =
+    tie.close
+    (tie.spec variables-requires wide-requires cast-all-at-most all-at-most-requires returns)
