@@ -2,9 +2,13 @@
 
 use crate::reference;
 
-/// The three operations of a run, with the answers of the C interface.
+/// The five operations, with the answers of the C interface.
 pub struct Executive {
     pub name: &'static str,
+    /// File, table: the refusal, or nothing.
+    pub compile: fn(&[u8], &mut [u8]) -> Result<(), u32>,
+    /// Table, file: the refusal, or nothing.
+    pub decompile: fn(&[u8], &mut [u8]) -> Result<(), u32>,
     /// Table, first estimate, record: 0, or the refusal.
     pub begin: fn(&[u8], &[u8], &mut [u8]) -> u32,
     /// Table, record, time, goals: the refusal, or 256 and the contested variable that is named.
@@ -16,6 +20,8 @@ pub struct Executive {
 /// The library.
 pub static LIBRARY: Executive = Executive {
     name: "library",
+    compile: crate::compile,
+    decompile: crate::decompile,
     begin: crate::begin,
     offer: crate::offer,
     settle: crate::settle,
@@ -24,6 +30,8 @@ pub static LIBRARY: Executive = Executive {
 /// The plain executive.
 pub static REFERENCE: Executive = Executive {
     name: "reference",
+    compile: reference::compile,
+    decompile: reference::decompile,
     begin: reference::begin,
     offer: reference::offer,
     settle: reference::settle,

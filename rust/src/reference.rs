@@ -1,32 +1,25 @@
 //! A plain executive over the location table, with the answers and buffers of the C interface.
 //!
-//! It is written from document 01's "Run record" and "One cycle over the table", in the order of
-//! its sentences and with nothing proved. The tests of the library run on it too, and measurements
-//! of the library's cost compare with it.
+//! It is written from document 01's "Location table", "Run record" and "One cycle over the table", in
+//! the order of its sentences and with nothing proved: slices, loops and local arrays, as one would
+//! write it for a board. The tests of the library run on it too, and `bin/performance` compares the
+//! library's cost with its cost.
+
+mod program;
+mod table;
 
 use crate::model::{
-    Kind, Sizes, Test, ESTIMATE_NOT_ALLOWED, MAX_CLOCKS, MAX_DEPTH, MAX_PARTS, MAX_VALUE,
-    MAX_VARIABLES, NONE, NOTHING_GOES_ON, NOT_A_TABLE, NUMBER_LEN, OPERAND_LEN, OUTPUT_TOO_SHORT,
-    OUT_OF_TURN, RECORD_NOT_ALLOWED, ROW_LEN, RUN_FINISHED, SIZES_LEN, TIME_BEFORE_LAST,
+    ESTIMATE_NOT_ALLOWED, MAX_CLOCKS, MAX_PARTS, MAX_VALUE, MAX_VARIABLES, NONE, NOTHING_GOES_ON,
+    NOT_A_TABLE, OUTPUT_TOO_SHORT, OUT_OF_TURN, RECORD_NOT_ALLOWED, RUN_FINISHED, TIME_BEFORE_LAST,
 };
 use crate::record::{
     start_place, ACCEPTED, CONTESTED, ESTIMATE, FINISHED, JUST_FINISHED, MARKS, NONE_CONTESTED,
     NO_GOAL, OFFERED, PHASE, RECORD_LEN, RUNNING, STARTED, TIME, TIME_LEN, WAITING,
 };
+use program::{AT_LEAST, CHOICE, DIFFERS, EQUALS, GOAL, MAINTAIN, PAR, REPEAT, SEQ, START, WAIT};
+use table::Table;
 
-const GOAL: u8 = Kind::Goal as u8;
-const START: u8 = Kind::Start as u8;
-const WAIT: u8 = Kind::Wait as u8;
-const SEQ: u8 = Kind::Seq as u8;
-const PAR: u8 = Kind::Par as u8;
-const MAINTAIN: u8 = Kind::Maintain as u8;
-const CHOICE: u8 = Kind::Choice as u8;
-const REPEAT: u8 = Kind::Repeat as u8;
-
-const EQUALS: u8 = Test::Equals as u8;
-const DIFFERS: u8 = Test::Differs as u8;
-const AT_LEAST: u8 = Test::AtLeast as u8;
-const BELOW: u8 = Test::Below as u8;
+pub use table::{compile, decompile};
 
 /// The marks of all the parts that a program can have.
 type Marks = [u8; MAX_PARTS];
@@ -117,127 +110,7 @@ enum Outcome {
     Neither,
 }
 
-/// A location table that has been checked.
-struct Table<'a> {
-    bytes: &'a [u8],
-    sizes: Sizes,
-}
-
-impl<'a> Table<'a> {
-    /// The bytes as a table, if they are the table of some file.
-    fn read(bytes: &'a [u8]) -> Option<Table<'a>> {
-        let sizes = Sizes::read(bytes)?;
-        let allowed = sizes.allowed() && bytes.len() == sizes.table_len();
-        let table = Table { bytes, sizes };
-        (allowed && table.rows_allowed() && table.links_allowed()).then_some(table)
-    }
-
-    fn kind(&self, part: usize) -> u8 {
-        self.bytes[SIZES_LEN + ROW_LEN * part]
-    }
-
-    fn end(&self, part: usize) -> usize {
-        self.link(part, 0)
-    }
-
-    fn parent(&self, part: usize) -> usize {
-        self.link(part, 1)
-    }
-
-    fn next(&self, part: usize) -> usize {
-        self.link(part, 2)
-    }
-
-    /// One of the three numbers that follow the kind in a row.
-    fn link(&self, part: usize, which: usize) -> usize {
-        let place = SIZES_LEN + ROW_LEN * part + 1 + NUMBER_LEN * which;
-        let bytes = &self.bytes[place..place + NUMBER_LEN];
-        let number = |high, &low: &u8| 256 * high + usize::from(low);
-        bytes.iter().rev().fold(0, number)
-    }
-
-    fn operand(&self, part: usize) -> [u8; OPERAND_LEN] {
-        let end = SIZES_LEN + ROW_LEN * (part + 1);
-        let [b0, b1, b2, b3] = self.bytes[end - OPERAND_LEN..end] else {
-            unreachable!("an operand has four bytes");
-        };
-        [b0, b1, b2, b3]
-    }
-
-    /// Whether kinds and operands are those of a file.
-    fn rows_allowed(&self) -> bool {
-        (0..self.sizes.parts).all(|part| {
-            let [b0, b1, b2, b3] = self.operand(part);
-            let value = u16::from_le_bytes([b2, b3]);
-            match self.kind(part) {
-                GOAL => b0 == 0 && self.is_variable(b1) && value <= MAX_VALUE,
-                START => b0 == 0 && self.is_clock(b1) && value == 0,
-                WAIT | MAINTAIN | CHOICE => match b0 {
-                    EQUALS | DIFFERS => self.is_variable(b1) && value <= MAX_VALUE,
-                    AT_LEAST | BELOW => self.is_clock(b1),
-                    _ => false,
-                },
-                SEQ | PAR => b0 > 0 && b1 == 0 && value == 0,
-                REPEAT => b0 == 0 && b1 == 0 && value == 0,
-                _ => false,
-            }
-        })
-    }
-
-    fn is_variable(&self, number: u8) -> bool {
-        usize::from(number) < self.sizes.variables
-    }
-
-    fn is_clock(&self, number: u8) -> bool {
-        usize::from(number) < self.sizes.clocks
-    }
-
-    fn child_count(&self, part: usize) -> usize {
-        match self.kind(part) {
-            SEQ | PAR => usize::from(self.operand(part)[0]),
-            MAINTAIN | REPEAT => 1,
-            CHOICE => 2,
-            _ => 0,
-        }
-    }
-
-    /// Whether the parts form exactly one tree, not too deep, and end, parent and next are those
-    /// of that tree.
-    fn links_allowed(&self) -> bool {
-        // The parts that lack children yet, from the root down, and how many each lacks.
-        let mut open = [(0, 0); MAX_DEPTH];
-        let mut depth = 0;
-        for part in 0..self.sizes.parts {
-            let outside = part > 0 && depth == 0;
-            if outside || depth == MAX_DEPTH || self.parent(part) != innermost(&open[..depth]) {
-                return false;
-            }
-            open[depth] = (part, self.child_count(part));
-            depth += 1;
-            while depth > 0 && open[depth - 1].1 == 0 {
-                let complete = open[depth - 1].0;
-                depth -= 1;
-                if let Some((_, lacks)) = open[..depth].last_mut() {
-                    *lacks -= 1;
-                }
-                let next = self.next_in(open[..depth].last(), complete, part + 1);
-                if self.end(complete) != part + 1 || self.next(complete) != next {
-                    return false;
-                }
-            }
-        }
-        depth == 0
-    }
-
-    /// The next of a part that ends before `end`, from what it stands in and what that still lacks.
-    fn next_in(&self, outer: Option<&(usize, usize)>, part: usize, end: usize) -> usize {
-        match outer {
-            Some(&(seq, lacks)) if self.kind(seq) == SEQ && lacks > 0 => end,
-            Some(&(repeat, _)) if self.kind(repeat) == REPEAT => part,
-            _ => NONE,
-        }
-    }
-
+impl Table<'_> {
     /// Marks a part in which nothing is marked, and what begins with it inside.
     fn initialise(&self, first: usize, marks: &mut [u8]) {
         marks[first] = 1;
@@ -411,11 +284,6 @@ impl<'a> Table<'a> {
         }
         count
     }
-}
-
-/// The innermost part that lacks children, the parent of the part that comes.
-fn innermost(open: &[(usize, usize)]) -> usize {
-    open.last().map_or(NONE, |&(part, _)| part)
 }
 
 fn estimate_allowed(estimate: &[u8], table: &Table) -> bool {

@@ -1,21 +1,22 @@
-//! Calls of the library that are compared with the model in every byte.
+//! Calls of the executives that are compared with the model in every byte.
 
 use gurvoke::cases::{hex, Rng};
+use gurvoke::executive::{Executive, ALL};
 use gurvoke::lent::Lent;
 use gurvoke::model;
 
 /// What a call answers.
 pub type Answer = Result<(), u32>;
 
-/// A call of the library or of the model: input, output.
+/// A call of an executive or of the model: input, output.
 type Call = fn(&[u8], &mut [u8]) -> Answer;
 
-/// Compares one call of `gurvoke_compile` with the model, and gives the answer.
+/// Compares one reading of a file with the model, and gives the answer.
 pub fn check_compile(rng: &mut Rng, file: &[u8], table_len: usize) -> Answer {
     check_call(rng, COMPILE, file, &[], table_len)
 }
 
-/// Compares one call of `gurvoke_decompile` with the model, and gives the answer.
+/// Compares one giving back of a table with the model, and gives the answer.
 pub fn check_decompile(rng: &mut Rng, table: &[u8], file_len: usize) -> Answer {
     check_call(rng, DECOMPILE, table, &[], file_len)
 }
@@ -30,25 +31,26 @@ pub fn check_decompile_cut(rng: &mut Rng, table: &[u8], len: usize, file_len: us
     check_call(rng, DECOMPILE, &table[..len], &table[len..], file_len)
 }
 
-/// A function of the library with its model.
+/// An operation of the executives with its model.
 struct Operation {
     name: &'static str,
-    library: Call,
+    of: fn(&Executive) -> Call,
     model: Call,
 }
 
 const COMPILE: Operation = Operation {
     name: "compile",
-    library: gurvoke::compile,
+    of: |executive| executive.compile,
     model: model::compile,
 };
 
 const DECOMPILE: Operation = Operation {
     name: "decompile",
-    library: gurvoke::decompile,
+    of: |executive| executive.decompile,
     model: model::decompile,
 };
 
+/// Makes one call on every executive and compares each with the model, in every byte.
 fn check_call(
     rng: &mut Rng,
     operation: Operation,
@@ -58,34 +60,37 @@ fn check_call(
 ) -> Answer {
     let lent_input = Lent::followed(rng, input, behind);
     let filling = rng.bytes(output_len);
-    let mut lent_output = Lent::new(rng, &filling);
+    let lent_output = Lent::new(rng, &filling);
 
     let mut expected = filling;
     let wanted = (operation.model)(input, &mut expected);
-    let answer = (operation.library)(lent_input.content(), lent_output.content_mut());
-
-    let case = || {
-        format!(
-            "{} of {} into {output_len} bytes",
-            operation.name,
-            hex(input)
-        )
-    };
-    assert_eq!(answer, wanted, "{}: answer (left: library)", case());
-    assert!(lent_input.is_as_expected(), "{}: input changed", case());
-    if answer.is_err() {
-        let untouched = lent_output.is_as_expected();
-        assert!(untouched, "{}: refused, but output changed", case());
+    for executive in ALL {
+        let mut lent_output = lent_output.clone();
+        let answer = (operation.of)(executive)(lent_input.content(), lent_output.content_mut());
+        let case = || {
+            format!(
+                "{}: {} of {} into {output_len} bytes",
+                executive.name,
+                operation.name,
+                hex(input)
+            )
+        };
+        assert_eq!(answer, wanted, "{}: answer (right: model)", case());
+        assert!(lent_input.is_as_expected(), "{}: input changed", case());
+        if answer.is_err() {
+            let untouched = lent_output.is_as_expected();
+            assert!(untouched, "{}: refused, but output changed", case());
+        }
+        lent_output.expect(&expected);
+        assert!(
+            lent_output.is_as_expected(),
+            "{}: output is {} and should be {}, or a byte beside it changed",
+            case(),
+            hex(lent_output.content()),
+            hex(&expected)
+        );
     }
-    lent_output.expect(&expected);
-    assert!(
-        lent_output.is_as_expected(),
-        "{}: output is {} and should be {}, or a byte beside it changed",
-        case(),
-        hex(lent_output.content()),
-        hex(&expected)
-    );
-    answer
+    wanted
 }
 
 /// Compares all that can be done with a file: reading it into output buffers of every

@@ -1,4 +1,4 @@
-//! Reading program files and giving them back: the library against the paper and the model.
+//! Reading program files and giving them back: every executive against the paper and the model.
 
 mod examples;
 mod exhaustive;

@@ -1,0 +1,319 @@
+/*
+ * A board's main loop. The program stands in read-only memory, table and record in static memory.
+ * A cycle reads the clock, makes an offer, commands the actuators, reads the sensors and settles.
+ *
+ * Every refusal has its text, and the board does one of three things about it: it goes on, since a
+ * refused call has changed nothing; it reads the program again, where the table is damaged; or it
+ * goes into its safe state. No memory is allocated, and no function is recursive.
+ *
+ * The drivers at the end stand in for a clock, sensors, actuators and a sea. Their script makes two
+ * dives. The output is examples/board.out: it was worked out from document 01, cycle by cycle, as
+ * the comments at the script say.
+ */
+#include "gurvoke.h"
+
+#include <stdbool.h>
+#include <stdio.h>
+#include <string.h>
+
+enum { LAMP, CORER, FRAME, RELEASE, VARIABLES };
+
+/* The lamp is off at 0, dim at 1 and bright at 2. The corer is at 1 while it works and at 2 when
+ * the core is taken. The frame is level at 0. The release lets go of the ballast at 1. */
+static const uint8_t program[] = {
+    10, VARIABLES, 1, /* ten parts, four variables, one clock */
+    4, 5, 1, 1, 2, 6, 4, 3, 1, 1, /* the parts' kinds, then their operands: */
+    4, 0, 0, 0, /* 0  SEQ of four */
+    2, 0, 0, 0, /* 1    PAR of two */
+    0, LAMP, 2, 0, /* 2      GOAL lamp = 2, for the camera */
+    0, LAMP, 1, 0, /* 3      GOAL lamp = 1, for the light meter */
+    0, 0, 0, 0, /* 4    START clock 0 */
+    1, FRAME, 0, 0, /* 5    MAINTAIN frame = 0 */
+    2, 0, 0, 0, /* 6      SEQ of two */
+    3, 0, 20, 0, /* 7        WAIT until clock 0 reads at least 20 */
+    0, CORER, 2, 0, /* 8        GOAL corer = 2 */
+    0, RELEASE, 1, 0, /* 9    GOAL release = 1 */
+};
+
+/* What the board commands where goals contend for a variable, at rest, and in its safe state, which
+ * brings the lander up. The frame has no actuator. */
+static const uint8_t when_contested[VARIABLES] = {1, 0, 0, 0};
+static const uint8_t at_rest[VARIABLES] = {0, 0, 0, 0};
+static const uint8_t when_safe[VARIABLES] = {0, 0, 0, 1};
+
+static const char *const names[VARIABLES] = {"lamp", "corer", "frame", "release"};
+
+static const char *const texts[] = {
+    [GURVOKE_FILE_TOO_SHORT] = "the file is under 3 bytes",
+    [GURVOKE_SIZE_OUT_OF_RANGE] = "a size is outside its range",
+    [GURVOKE_WRONG_LENGTH] = "the file's length does not fit its number of parts",
+    [GURVOKE_UNKNOWN_KIND] = "unknown kind",
+    [GURVOKE_OPERAND_NOT_ALLOWED] = "operand not allowed",
+    [GURVOKE_NOT_ONE_TREE] = "the parts do not form exactly one tree",
+    [GURVOKE_TOO_DEEP] = "the program is too deep",
+    [GURVOKE_BUFFER_TOO_SHORT] = "the output buffer is too short",
+    [GURVOKE_NOT_A_TABLE] = "the table is damaged",
+    [GURVOKE_RECORD_NOT_ALLOWED] = "the record is damaged",
+    [GURVOKE_WRONG_PHASE] = "offer or settling out of turn",
+    [GURVOKE_TIME_BEFORE_LAST] = "the clock went backwards",
+    [GURVOKE_ESTIMATE_NOT_ALLOWED] = "the sensors gave a value that no variable has",
+    [GURVOKE_RUN_FINISHED] = "the run is finished",
+    [GURVOKE_NOTHING_AT_WORK] = "nothing is left that could go on",
+};
+
+/* How a run stands. */
+enum state { RUNNING, FINISHED, SAFE };
+
+static uint8_t table[GURVOKE_MAX_TABLE];
+static size_t table_len;
+static uint8_t record[GURVOKE_RECORD];
+static uint32_t now; /* what the clock read in this cycle */
+static uint8_t goals[VARIABLES];
+static uint8_t estimate[VARIABLES];
+
+/* The drivers. */
+static uint32_t read_clock(void);
+static void read_sensors(uint8_t *values);
+static void command(int variable, uint8_t value);
+static void sleep_until_next_cycle(void);
+
+static void report_refusal(const char *call, uint32_t number)
+{
+    const char *text = number < sizeof texts / sizeof texts[0] ? texts[number] : "unknown answer";
+    printf("%3lu s  %s refused with %lu: %s\n", (unsigned long)now, call, (unsigned long)number,
+           text);
+}
+
+static void command_all(const uint8_t *values)
+{
+    for (int v = 0; v < VARIABLES; v++)
+        command(v, values[v]);
+}
+
+/* Reads the program into the table and has the table give it back: what the board is going to run
+ * is what stands in its read-only memory. (The calls of a run refuse bytes that are no table. Bytes
+ * that have become the table of another program they run: only this comparison would tell.) */
+static bool load_program(void)
+{
+    static uint8_t again[sizeof program];
+    uint32_t answer = gurvoke_compile(program, sizeof program, table, sizeof table);
+    if (answer != 0) {
+        report_refusal("reading", answer);
+        return false;
+    }
+    table_len = GURVOKE_TABLE_LENGTH(table[0]);
+    answer = gurvoke_decompile(table, table_len, again, sizeof again);
+    if (answer != 0) {
+        report_refusal("giving back", answer);
+        return false;
+    }
+    return memcmp(program, again, sizeof program) == 0;
+}
+
+static bool begin_run(void)
+{
+    read_sensors(estimate);
+    uint32_t answer =
+        gurvoke_begin(table, table_len, estimate, sizeof estimate, record, sizeof record);
+    if (answer != 0)
+        report_refusal("beginning", answer);
+    return answer == 0;
+}
+
+/* Whether the board may go on after a refused call, which has changed nothing. */
+static bool can_go_on(uint32_t answer)
+{
+    switch (answer) {
+    case GURVOKE_TIME_BEFORE_LAST: /* the clock's next reading may be right again, */
+    case GURVOKE_ESTIMATE_NOT_ALLOWED: /* and so may the sensors' */
+        return true;
+    case GURVOKE_NOT_A_TABLE: /* the run stands in the record, so a new table will do */
+        return load_program();
+    default: /* a damaged record cannot be mended, and the rest would be faults of this loop */
+        return false;
+    }
+}
+
+/* A contested variable gets the board's own value, one without a goal is left alone. */
+static void command_goals(void)
+{
+    for (int v = 0; v < VARIABLES; v++) {
+        if (goals[v] == GURVOKE_CONTESTED)
+            command(v, when_contested[v]);
+        else if (goals[v] != GURVOKE_NO_GOAL)
+            command(v, goals[v]);
+    }
+}
+
+/* Settles with what the sensors say. Where that is refused they are read again, but not for ever:
+ * the cycle has to end. */
+static uint32_t settle(void)
+{
+    for (int tries = 1;; tries++) {
+        read_sensors(estimate);
+        uint32_t answer =
+            gurvoke_settle(table, table_len, record, sizeof record, estimate, sizeof estimate);
+        if (answer >= GURVOKE_ANSWERED)
+            return answer;
+        report_refusal("settling", answer);
+        if (!can_go_on(answer) || tries == 3)
+            return answer;
+    }
+}
+
+static void print_bytes(const char *title, const uint8_t *bytes)
+{
+    printf("  %s", title);
+    for (int v = 0; v < VARIABLES; v++)
+        printf(" %02X", bytes[v]);
+}
+
+static void report_cycle(uint32_t offered, uint32_t settled)
+{
+    uint32_t contested = offered - GURVOKE_ANSWERED;
+    printf("%3lu s", (unsigned long)now);
+    print_bytes("goals", goals);
+    print_bytes("estimate", estimate);
+    printf("  %s", settled == GURVOKE_FINISHED ? "finished" : "running");
+    if (contested != GURVOKE_NONE)
+        printf(", %s contested", names[contested]);
+    printf("\n");
+}
+
+/* One cycle: offer, command, read, settle. Where the offer is refused it does not take place. */
+static enum state cycle(void)
+{
+    now = read_clock();
+    uint32_t offered =
+        gurvoke_offer(table, table_len, record, sizeof record, now, goals, sizeof goals);
+    if (offered < GURVOKE_ANSWERED) {
+        report_refusal("offer", offered);
+        return can_go_on(offered) ? RUNNING : SAFE;
+    }
+
+    command_goals();
+
+    uint32_t settled = settle();
+    if (settled < GURVOKE_ANSWERED)
+        return SAFE;
+    report_cycle(offered, settled);
+    return settled == GURVOKE_FINISHED ? FINISHED : RUNNING;
+}
+
+/* A whole run. After its end the board makes no more offers: they would be refused with 14. */
+static enum state dive(void)
+{
+    enum state state = begin_run() ? RUNNING : SAFE;
+    while (state == RUNNING) {
+        state = cycle();
+        sleep_until_next_cycle();
+    }
+    command_all(state == FINISHED ? at_rest : when_safe);
+    printf("%s\n", state == FINISHED ? "at rest" : "safe state");
+    return state;
+}
+
+int main(void)
+{
+    if (!load_program())
+        return 1;
+    printf("first dive\n");
+    if (dive() != FINISHED)
+        return 1;
+    printf("second dive\n");
+    return dive() == SAFE ? 0 : 1; /* as the script has it */
+}
+
+/* The rest is made up: what happens to the board, cycle by cycle. */
+enum fault { NO_FAULT, NO_ECHO, TABLE_HIT, RECORD_HIT };
+
+static const struct moment {
+    uint32_t clock;
+    uint8_t frame;
+    enum fault fault;
+} script[] = {
+    /* First dive. Beginning marks the root, the PAR and its two GOALs (0, 1, 2, 3). */
+    /* The GOALs want 2 and 1 of the lamp: contested, goal byte FE. The board's own value is 1, so
+     * GOAL 3 ends, and the PAR goes on with GOAL 2. */
+    {0, 0, NO_FAULT},
+    /* Now GOAL 2 alone: goal byte 02. It ends, nothing is left of the PAR, which ends and
+     * initialises its next, START 4. */
+    {5, 0, NO_FAULT},
+    /* No GOAL is marked. The START ends and starts clock 0 at 10; MAINTAIN 5, SEQ 6 and WAIT 7 are
+     * initialised. */
+    {10, 0, NO_FAULT},
+    /* The frame is level, so the MAINTAIN is not violated. The clock reads 5: the WAIT waits. */
+    {15, 0, NO_FAULT},
+    /* 4 is before the last time, 15: refused with 12. The record is as it was. */
+    {4, 0, NO_FAULT},
+    /* The clock reads 10. The frame's sensor has no echo at first and reads 251: that settling is
+     * refused with 13, and the second reading, level, settles the cycle. */
+    {20, 0, NO_ECHO},
+    /* The clock reads 15. The frame tilts: this settling stores it, but looks at no MAINTAIN. */
+    {25, 1, NO_FAULT},
+    /* The clock comes due, it reads 20. But the offer comes first: by the stored estimate "frame =
+     * 0" is violated, so SEQ 6 and WAIT 7 lose their marks, and no core is ever asked for. At the
+     * settling the MAINTAIN has nothing marked inside, ends, and initialises its next, GOAL 9. */
+    {30, 1, NO_FAULT},
+    /* GOAL 9: release. It ends and has no next; nothing is left in the SEQ, which is the root:
+     * finished. */
+    {35, 1, NO_FAULT},
+
+    /* Second dive, on the same table and record. All is at rest, so it begins as the first did. */
+    {100, 0, NO_FAULT},
+    {110, 0, NO_FAULT},
+    /* Clock 0 is started at 120. */
+    {120, 0, NO_FAULT},
+    /* A bit of the table is wrong: refused with 9. The board reads the program again. */
+    {130, 0, TABLE_HIT},
+    /* The clock reads 20 and the frame is level: the WAIT ends and initialises GOAL 8. */
+    {140, 0, NO_FAULT},
+    /* GOAL 8: goal byte 02 for the corer, which begins to work. At 1 it is not yet at 2. */
+    {150, 0, NO_FAULT},
+    /* The mark of part 9 has become 1. So SEQ 0 has two marked children, 5 and 9, and no record
+     * may have that: refused with 10. */
+    {160, 0, RECORD_HIT},
+    /* The board sleeps once more after its last cycle. */
+    {170, 0, NO_FAULT},
+};
+
+/* Where the board is in the script, what it commanded last, and how far the corer is. */
+static size_t moment;
+static uint8_t commanded[VARIABLES];
+static uint8_t corer;
+static bool echo_failed;
+
+static uint32_t read_clock(void)
+{
+    return script[moment].clock;
+}
+
+static void read_sensors(uint8_t *values)
+{
+    values[LAMP] = commanded[LAMP];
+    values[CORER] = corer;
+    values[FRAME] = script[moment].frame;
+    values[RELEASE] = commanded[RELEASE];
+    if (script[moment].fault == NO_ECHO && !echo_failed) {
+        echo_failed = true;
+        values[FRAME] = GURVOKE_MAX_VALUE + 1;
+    }
+}
+
+static void command(int variable, uint8_t value)
+{
+    commanded[variable] = value;
+    if (variable == CORER && value == 0)
+        corer = 0;
+    else if (variable == CORER && corer < 2)
+        corer++;
+}
+
+static void sleep_until_next_cycle(void)
+{
+    moment++;
+    if (script[moment].fault == TABLE_HIT)
+        table[GURVOKE_TABLE_LENGTH(5) + 1] ^= 1; /* the end of part 5 */
+    if (script[moment].fault == RECORD_HIT)
+        record[GURVOKE_RECORD - GURVOKE_MAX_PARTS + 9] ^= 1; /* the mark of part 9 */
+}
