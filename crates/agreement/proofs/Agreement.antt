@@ -25,16 +25,16 @@ use Rattle.meaning.proofs.Files.{accepted-file}
 use Rattle.meaning.proofs.Tables.{table-holds, table-accepted, tree-table, compiled-is}
 use Rattle.meaning.proofs.Entries.{length-goals}
 use Rattle.meaning.proofs.Records.{Fits, judged, phase-read, time-read, estimate-read, started-read, starts-read, begin-tests, begun-fits, begun-bytes, clocks-begun, estimate-fits, checked-marks, settled-marks, offered-bytes, offered-fits, settled-bytes, settled-fits, record-allowed, flags-small, clocks-settled, clock-later}
+use Rattle.meaning.proofs.Refusals.{begin-refused}
+use Rattle.meaning.proofs.Lies.{Lies, root-lies}
 use Rattle.agreement.specs.Unfolding.{Rest, afresh, check, working, settle}
 use Rattle.agreement.specs.Runs.{Call, offer, settling, Reply, refused, goals, running, done, tableReply, tableNext, State, begin, Fed, fed, offering, settled, refusalOf, workingOf, phaseFor, treeNext, treeReply, acceptedReply, settledState, NameAlike, possible, Alike, counted, tableFinishing, treeFinishing, Timed, estimateFits, Demand3}
 use Rattle.agreement.proofs.Contested.{names-contested}
 use Rattle.agreement.proofs.AtWork.{all-working, small-values}
 use Rattle.agreement.proofs.Shapes.{length-marks}
-use Rattle.agreement.proofs.Lies.{Lies, root-lies}
 use Rattle.agreement.proofs.Passes.{leaves-blank, leaves-whole, check-whole, fresh-lies}
 use Rattle.agreement.proofs.Settles.{marksLeft, settle-root, root-ended}
 use Rattle.agreement.proofs.Works.{Holding, afresh-holding, never-stalls}
-use Rattle.agreement.proofs.Initialised.{begin-refused}
 use Rattle.agreement.proofs.Allowed.{settle-holds, root-allowed, ended-allowed, blank-flags, marks-flags}
 
 -- a test that 0 and the number of each test pass, the number of the first that fails passes

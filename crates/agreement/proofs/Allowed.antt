@@ -19,11 +19,11 @@ use Rattle.meaning.specs.Program.{Within}
 use Rattle.meaning.specs.Table.{insideOf, tableOf}
 use Rattle.meaning.specs.Conditions.{Situation}
 use Rattle.meaning.specs.Record.{waiting, offered, finished, isMark, markedChildren, childrenAllowed, partsAllowed, rootAllowed}
-use Rattle.meaning.proofs.Trees.{All, part-ind, size-law, all-of}
+use Rattle.meaning.proofs.Trees.{All, part-ind, size-law, all-of, sizes, inner, size-inner}
+use Rattle.meaning.proofs.Lies.{Lies, LieIn, own-row, own-kind, own-inside, inside, first-lies, others-lie, root-lies}
 use Rattle.agreement.specs.Unfolding.{Rest, Current, Running, this, that, both, broken, holding, undecided, first, second, settle}
-use Rattle.agreement.proofs.Marks.{sizes, blank, marksOf, marksCurrent, marksRunning}
-use Rattle.agreement.proofs.Shapes.{inner, size-inner, marks-front, marks-ind, blank-both, any-blank}
-use Rattle.agreement.proofs.Lies.{Lies, LieIn, own-row, own-kind, own-inside, inside, first-lies, others-lie, root-lies}
+use Rattle.agreement.proofs.Marks.{blank, marksOf, marksCurrent, marksRunning}
+use Rattle.agreement.proofs.Shapes.{marks-front, marks-ind, blank-both, any-blank}
 use Rattle.agreement.proofs.Works.{Holding, HoldingCurrent, HoldingRunning, settle-holding}
 
 -- the marks xs of a parts from number n on mark c children of part u, whatever follows

@@ -1,15 +1,11 @@
 -- The marks of what remains of a tree: a mark for each part that is at work, in the order of the parts.
-use Prim.Native.Nat.{ℕ, _+_}
+use Prim.Native.Nat.{ℕ}
 use mathlib.Core.Logic.{inl, inr}
 use mathlib.Core.List.{List, [], _∷_, _++_}
 use lib.ListN.{replicate}
 use Rattle.meaning.specs.Tree.{Part, Parts, goal, start, wait, seq, par, maintain, choice, repeat, one, more, size}
+use Rattle.meaning.proofs.Trees.{sizes}
 use Rattle.agreement.specs.Unfolding.{Rest, Current, Running, this, that, both, broken, holding, undecided, first, second}
-
--- how many parts stand in parts one after the other
-abbrev pub sizes : Parts → ℕ
-sizes (one p) = size p
-sizes (more p ps) = size p + sizes ps
 
 -- of n parts none is marked
 abbrev pub blank : ℕ → List ℕ

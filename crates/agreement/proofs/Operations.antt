@@ -23,10 +23,9 @@ use Rattle.meaning.specs.Answers.{answered}
 use Rattle.meaning.specs.Operations.{Begun}
 use Rattle.meaning.proofs.Files.{accepted}
 use Rattle.meaning.proofs.Tables.{table-holds, table-accepted, compiled-is}
+use Rattle.meaning.proofs.Refusals.{offer-list, settle-list, settled-phase, goal-bytes-into}
 use Rattle.agreement.specs.Runs.{Call, offer, settling, Reply, refused, goals, running, done, reply, settledReply, tableReply, tableNext, tableReplies, tableAfter, tableFinishing, State, begin, fed, treeNext, counted, possible, NameAlike, NamesAlike, Alike, Timed}
 use Rattle.agreement.specs.Calls.{tableIn, Made, offerMade, settlingMade, callOf, recordFrom, Promised, AllPromised, told, NameTold, NamesTold, recordAfter, finishingCycle, CallsAlike, OperationsAlike, OperationsAgree, PromisesKept}
-use Rattle.agreement.proofs.GoalBytes.{goal-bytes-into}
-use Rattle.agreement.proofs.RecordFields.{offer-list, settle-list, settled-phase}
 use Rattle.agreement.proofs.Agreement.{failing-passes, demand-3}
 
 -- the numbers of refusals are below those of the other answers

@@ -4,8 +4,8 @@ use native.Mathlib.Nat.{add-zero, add-suc, suc-add, add-assoc}
 use mathlib.Core.Path.{_≡_, sym, ap, _∙_}
 use mathlib.Core.List.{List, [], _∷_, _++_, append-assoc, append-nil}
 use Rattle.meaning.specs.Tree.{Part, size}
+use Rattle.meaning.proofs.Trees.{inner, size-inner}
 use Rattle.agreement.proofs.Marks.{blank}
-use Rattle.agreement.proofs.Shapes.{inner, size-inner}
 
 -- over the marks xs of a parts from number n on a pass leaves ys, whatever follows
 pub record Over {A : Type 0} (F : ℕ → List ℕ → List A) (n a : ℕ) (xs : List ℕ) (ys : List A) : Type 0 where

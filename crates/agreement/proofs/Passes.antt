@@ -15,11 +15,11 @@ use Rattle.meaning.specs.Tree.{Part, Parts, goal, start, wait, seq, par, mainta
 use Rattle.meaning.specs.Table.{kindAt, insideOf}
 use Rattle.meaning.specs.Conditions.{Situation, violated}
 use Rattle.meaning.specs.Cycle.{beginsIn, begins, freshFrom, fresh, isKind, isLeaf, checkedFrom, leavesFrom}
-use Rattle.meaning.proofs.Trees.{entryOf}
+use Rattle.meaning.proofs.Trees.{entryOf, sizes, inner, size-inner}
+use Rattle.meaning.proofs.Lies.{Lies, LieIn, own-row, own-inside, inside, first-lies, others-lie}
 use Rattle.agreement.specs.Unfolding.{Rest, Current, Running, this, that, both, broken, holding, undecided, first, second, afresh, afreshFirst, afreshAll, check, checkCurrent, checkRunning, working, workingCurrent, workingRunning}
-use Rattle.agreement.proofs.Marks.{sizes, blank, marksOf, marksCurrent, marksRunning}
-use Rattle.agreement.proofs.Shapes.{inner, size-inner, marks-front, length-marks, length-inner, blank-both}
-use Rattle.agreement.proofs.Lies.{Lies, LieIn, own-row, own-inside, inside, first-lies, others-lie}
+use Rattle.agreement.proofs.Marks.{blank, marksOf, marksCurrent, marksRunning}
+use Rattle.agreement.proofs.Shapes.{marks-front, length-marks, length-inner, blank-both}
 use Rattle.agreement.proofs.Over.{Over, over-none, over-all, over-both, over-part, over-blank}
 
 -- Marked leaves

@@ -22,10 +22,11 @@ use Rattle.meaning.specs.Conditions.{Situation, reached, satisfied}
 use Rattle.meaning.specs.Record.{isMark}
 use Rattle.meaning.specs.declared.Fate.the-variants.{Stays, Ends, First, Second}
 use Rattle.meaning.specs.Cycle.{endsIf, fate, begun, applied, settledFrom, rootEnded}
+use Rattle.meaning.proofs.Trees.{sizes, inner, size-inner}
+use Rattle.meaning.proofs.Lies.{Lies, LieIn, own-row, own-kind, own-inside, inside, first-lies, others-lie}
 use Rattle.agreement.specs.Unfolding.{Rest, Current, Running, this, that, both, broken, holding, undecided, first, second, afresh, afreshFirst, onward, join, settle, settleCurrent, settleRunning}
-use Rattle.agreement.proofs.Marks.{sizes, blank, marksOf, marksCurrent, marksRunning}
-use Rattle.agreement.proofs.Shapes.{inner, size-inner, marks-front, length-marks, blank-both, any-blank, any-marks, any-first, any-later, any-current, any-running}
-use Rattle.agreement.proofs.Lies.{Lies, LieIn, own-row, own-kind, own-inside, inside, first-lies, others-lie}
+use Rattle.agreement.proofs.Marks.{blank, marksOf, marksCurrent, marksRunning}
+use Rattle.agreement.proofs.Shapes.{marks-front, length-marks, blank-both, any-blank, any-marks, any-first, any-later, any-current, any-running}
 use Rattle.agreement.proofs.Over.{Over, over-none, over-all, over-both, over-blank}
 use Rattle.agreement.proofs.Passes.{fresh-lies}
 

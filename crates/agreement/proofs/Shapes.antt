@@ -4,42 +4,16 @@ use native.Mathlib.Omega.{arith}
 use mathlib.Core.Path.{_≡_, refl, ap, ap₂, _∙_}
 use mathlib.Core.Logic.{inl, inr}
 use mathlib.Core.Bool.{Bool, true, false, _&&_, _||_, or-assoc}
-use mathlib.Core.List.{List, [], _∷_, _++_, map}
+use mathlib.Core.List.{List, [], _∷_, _++_}
 use lib.ListN.{length, drop, length-append, length-drop, length-replicate, replicate-append-replicate}
 use lib.Dec.{leb}
-use Rattle.base.specs.Lists.{all, any, sum}
+use Rattle.base.specs.Lists.{all, any}
 use Rattle.base.proofs.Lists.{all-append}
-use Rattle.meaning.specs.Tree.{Part, Parts, goal, start, wait, seq, par, maintain, choice, repeat, one, more, listOf, size}
+use Rattle.meaning.specs.Tree.{Part, Parts, goal, start, wait, seq, par, maintain, choice, repeat, one, more, size}
 use Rattle.meaning.specs.Record.{isMark}
-use Rattle.meaning.proofs.Trees.{size-law}
+use Rattle.meaning.proofs.Trees.{sizes, inner, size-inner}
 use Rattle.agreement.specs.Unfolding.{Rest, Current, Running, this, that, both, broken, holding, undecided, first, second}
-use Rattle.agreement.proofs.Marks.{sizes, blank, marksOf, marksCurrent, marksRunning}
-
--- how many parts stand inside a part
-abbrev pub inner : Part → ℕ
-inner (goal o) = 0
-inner (start o) = 0
-inner (wait o) = 0
-inner (seq ps) = sizes ps
-inner (par ps) = sizes ps
-inner (maintain o p) = size p
-inner (choice o p q) = size p + size q
-inner (repeat p) = size p
-
-sizes-list : (ps : Parts) → sum (map size (listOf ps)) ≡ sizes ps
-sizes-list (one p) = omega arith
-sizes-list (more p ps) = rw (sizes-list ps)
-
--- a part is one more than what stands inside it
-pub size-inner : (p : Part) → size p ≡ suc (inner p)
-size-inner (goal o) = size-law (goal o)
-size-inner (start o) = size-law (start o)
-size-inner (wait o) = size-law (wait o)
-size-inner (seq ps) = size-law (seq ps) ∙ ap suc (sizes-list ps)
-size-inner (par ps) = size-law (par ps) ∙ ap suc (sizes-list ps)
-size-inner (maintain o p) = omega (arith, size-law (maintain o p))
-size-inner (choice o p q) = omega (arith, size-law (choice o p q))
-size-inner (repeat p) = omega (arith, size-law (repeat p))
+use Rattle.agreement.proofs.Marks.{blank, marksOf, marksCurrent, marksRunning}
 
 -- a part at work is marked
 pub marks-front : (p : Part) (r : Rest p) → marksOf p r ≡ 1 ∷ drop 1 (marksOf p r)

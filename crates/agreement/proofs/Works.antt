@@ -17,11 +17,11 @@ use Rattle.meaning.specs.Tree.{Part, Parts, goal, start, wait, seq, par, mainta
 use Rattle.meaning.specs.Conditions.{Situation, reached, satisfied}
 use Rattle.meaning.specs.Record.{isMark}
 use Rattle.meaning.specs.Cycle.{isKind, isLeaf, settledFrom, rootEnded, worksFrom}
-use Rattle.meaning.proofs.Trees.{entryOf}
+use Rattle.meaning.proofs.Trees.{entryOf, sizes, inner}
+use Rattle.meaning.proofs.Lies.{Lies, LieIn, own-row, own-inside, inside, first-lies, others-lie}
 use Rattle.agreement.specs.Unfolding.{Rest, Current, Running, this, that, both, broken, holding, undecided, first, second, afresh, afreshFirst, afreshAll, onward, join, settle, settleCurrent, settleRunning}
-use Rattle.agreement.proofs.Marks.{sizes, blank, marksOf, marksCurrent, marksRunning}
-use Rattle.agreement.proofs.Shapes.{inner, blank-both, any-blank}
-use Rattle.agreement.proofs.Lies.{Lies, LieIn, own-row, own-inside, inside, first-lies, others-lie}
+use Rattle.agreement.proofs.Marks.{blank, marksOf, marksCurrent, marksRunning}
+use Rattle.agreement.proofs.Shapes.{blank-both, any-blank}
 use Rattle.agreement.proofs.Settles.{marksLeft, settle-root, root-ended}
 
 -- no MAINTAIN in what remains is broken

@@ -1,4 +1,3 @@
 pub mod Unfolding
 pub mod Runs
 pub mod Calls
-pub mod Stations

@@ -137,3 +137,24 @@ module _ {A : Type 0} (f : ℕ → A) where
   all-tabulate t i (suc n) h =
       let first : t (f i) ≡ true = rw add-zero at (h 0 (omega arith)) in
       rw first (all-tabulate t (suc i) n (λ c l. rw (suc-add, ← add-suc) (h (suc c) (omega arith))))
+
+-- where a test fails of some, it fails of one; where it passes of all, it passes of each
+pub fails-of-one : (f : ℕ → Bool) (xs : List ℕ) → all f xs ≡ false → (i : ℕ) × (i < length xs) × (f (getD xs i 0) ≡ false)
+fails-of-one f [] h = let z : _≡_ {A = ℕ} 0 1 = cc in (0, omega arith, cc)
+fails-of-one f (x ∷ xs) h = go (f x) refl (λ t. fails-of-one f xs t)
+  where
+    go : (b : Bool) → f x ≡ b → (all f xs ≡ false → (i : ℕ) × (i < length xs) × (f (getD xs i 0) ≡ false)) → (i : ℕ) × (i < suc (length xs)) × (f (getD (x ∷ xs) i 0) ≡ false)
+    go false e later = (0, omega arith, e)
+    go true e later =
+        let rest : (i : ℕ) × (i < length xs) × (f (getD xs i 0) ≡ false) = later (rw e at h) in
+        (suc (rest .0), omega (arith, rest .1), rest .2)
+
+passes-of-each : (f : ℕ → Bool) (xs : List ℕ) → all f xs ≡ true → (i : ℕ) → i < length xs → f (getD xs i 0) ≡ true
+passes-of-each f [] h i l = absurd (omega arith)
+passes-of-each f (x ∷ xs) h zero l = and-left (f x) (all f xs) h
+passes-of-each f (x ∷ xs) h (suc i) l = passes-of-each f xs (and-right (f x) (all f xs) h) i (omega arith)
+
+-- where all others are equal to the first, each of them is
+pub all-first : (x : ℕ) (xs : List ℕ) → all (eqb x) xs ≡ true → (i : ℕ) → i < length (x ∷ xs) → getD (x ∷ xs) i 0 ≡ x
+all-first x xs h zero l = refl
+all-first x xs h (suc i) l = sym (eqb-true x (getD xs i 0) (passes-of-each (eqb x) xs h i (omega arith)))

@@ -1,15 +1,15 @@
--- What the entries of a table satisfy, and how many goal bytes they give.
+-- What the entries of a table satisfy, and the goal bytes that they give.
 use Prim.Native.Nat.{ℕ, zero, suc, _+_, _≤_, _<_}
 use native.Mathlib.Nat.{zero-add, add-zero, add-suc, suc-add}
 use native.Mathlib.Omega.{arith}
-use mathlib.Core.Path.{_≡_}
+use mathlib.Core.Path.{_≡_, ap, _∙_}
 use mathlib.Core.Bool.{Bool, true, _&&_}
 use mathlib.Core.List.{List}
 use lib.Dec.{eqb, leb, ltb}
-use lib.ListN.{length}
+use lib.ListN.{length, getD}
 use borrow.Author.Tests.{eqb-true, leb-true, ltb-true}
 use Rattle.base.specs.Lists.{all}
-use Rattle.base.proofs.Lists.{and-left, and-right, length-tabulate}
+use Rattle.base.proofs.Lists.{and-left, and-right, length-tabulate, getD-tabulate}
 use Rattle.meaning.specs.declared.Entry.{Entry}
 use Rattle.meaning.specs.declared.Form.the-variants.{Table}
 use Rattle.meaning.specs.Sizes.{maxValue}
@@ -47,3 +47,8 @@ goal-fits v k e a g =
 pub length-goals : (v : ℕ) (es : List Entry) → length (goalBytes v es) ≡ v
 unfolding goalBytes
 length-goals v es = length-tabulate (λ u. goalByte (valuesFor u es)) 0 v
+
+-- the goal byte of a variable
+pub byte-at : (n v : ℕ) (es : List Entry) → v < n → getD (goalBytes n es) v 0 ≡ goalByte (valuesFor v es)
+unfolding goalBytes
+byte-at n v es h = getD-tabulate (λ u. goalByte (valuesFor u es)) 0 n v 0 h ∙ ap (λ (u : ℕ). goalByte (valuesFor u es)) (zero-add v)

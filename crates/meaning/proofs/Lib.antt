@@ -3,6 +3,8 @@ pub mod Trees
 pub mod Parsing
 pub mod Files
 pub mod Tables
+pub mod Lies
 pub mod Entries
 pub mod Records
+pub mod Refusals
 pub mod Answers

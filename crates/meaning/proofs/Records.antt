@@ -3,14 +3,14 @@ use Prim.Native.Nat.{ℕ, zero, suc, _+_, _-_, _*_, _/_, _%_, _^_, _≤_, _<_}
 use native.Mathlib.Nat.{zero-add}
 use native.Mathlib.Omega.{arith}
 use mathlib.Core.Path.{_≡_, refl, sym, ap, ap₂, _∙_}
-use mathlib.Core.Bool.{Bool, true, false, cond, not, _||_, and-eq-true-iff}
+use mathlib.Core.Bool.{Bool, true, false, cond, not, _&&_, _||_, and-eq-true-iff}
 use mathlib.Core.List.{List, [], _∷_, _++_, map, append-assoc, append-nil}
 use lib.Dec.{eqb, leb}
 use lib.ListN.{length, getD, take, drop, set, replicate, length-append, length-replicate, getD-replicate}
 use lib.Seq.{sets, length-sets}
 use borrow.Author.Tests.{le-leb, leb-true, eqb-true}
 use Rattle.base.specs.Lists.{sum, join, flat, all, any, tabulate, flag, bytesAt}
-use Rattle.base.proofs.Lists.{Passed, none-fails, cond-map, cond-same, length-pieces, length-tabulate, getD-tabulate, all-tabulate, all-replicate}
+use Rattle.base.proofs.Lists.{and-left, Passed, none-fails, cond-map, cond-same, length-pieces, length-tabulate, getD-tabulate, all-tabulate, all-replicate}
 use Rattle.base.proofs.Stores.{sets-start, drop-front, bytes-front, drop-join, sets-join, bytes-join}
 use Rattle.meaning.specs.declared.Entry.{Entry}
 use Rattle.meaning.specs.Sizes.{maxParts, maxVariables, maxClocks, maxValue, timeWidth, littleEndian, valueFrom}
@@ -359,6 +359,11 @@ module _ {t : List ℕ} {time : ℕ} {est started starts marks : List ℕ} (fits
         a .parts-allowed,
         k,
       )
+
+-- an allowed record is long enough
+pub allowed-long : (t r : List ℕ) → recordAllowed t r ≡ true → recordLength ≤ length r
+unfolding recordAllowed
+allowed-long t r h = leb-true recordLength (length r) (and-left (leb recordLength (length r)) (restZero t r && (valuesAllowed t r && (clocksAllowed t r && (rootAllowed (phaseOf r) (marksIn t r) && partsAllowed t (phaseOf r) 0 (marksIn t r))))) h)
 
 -- an estimate that is allowed has a value for each variable, none too large
 pub estimate-fits : (t est : List ℕ) → estimateAllowed t est ≡ true → (length est ≡ variables t) × (all (λ x. leb x maxValue) est ≡ true)

@@ -1,5 +1,6 @@
 -- Laws of trees: induction over parts, and what each count over a tree is of a part and its children.
 use Prim.Native.Nat.{ℕ, suc, _+_}
+use native.Mathlib.Omega.{arith}
 use mathlib.Core.Path.{_≡_, refl, ap, _∙_}
 use mathlib.Core.List.{List, [], _∷_, map, map-map}
 use lib.ListN.{length}
@@ -101,3 +102,34 @@ length-preorder = part-ind (λ p. length (preorder p) ≡ size p) (λ p h. rw (p
 
 pub length-flat-preorder : (ps : List Part) → length (flat preorder ps) ≡ sum (map size ps)
 length-flat-preorder ps = length-flat preorder ps ∙ ap sum (map-all (λ q. length (preorder q)) size ps (all-of (λ p. length (preorder p) ≡ size p) length-preorder ps))
+
+-- how many parts stand in parts one after the other
+abbrev pub sizes : Parts → ℕ
+sizes (one p) = size p
+sizes (more p ps) = size p + sizes ps
+
+-- how many parts stand inside a part
+abbrev pub inner : Part → ℕ
+inner (goal o) = 0
+inner (start o) = 0
+inner (wait o) = 0
+inner (seq ps) = sizes ps
+inner (par ps) = sizes ps
+inner (maintain o p) = size p
+inner (choice o p q) = size p + size q
+inner (repeat p) = size p
+
+sizes-list : (ps : Parts) → sum (map size (listOf ps)) ≡ sizes ps
+sizes-list (one p) = omega arith
+sizes-list (more p ps) = rw (sizes-list ps)
+
+-- a part is one more than what stands inside it
+pub size-inner : (p : Part) → size p ≡ suc (inner p)
+size-inner (goal o) = size-law (goal o)
+size-inner (start o) = size-law (start o)
+size-inner (wait o) = size-law (wait o)
+size-inner (seq ps) = size-law (seq ps) ∙ ap suc (sizes-list ps)
+size-inner (par ps) = size-law (par ps) ∙ ap suc (sizes-list ps)
+size-inner (maintain o p) = omega (arith, size-law (maintain o p))
+size-inner (choice o p q) = omega (arith, size-law (choice o p q))
+size-inner (repeat p) = omega (arith, size-law (repeat p))

@@ -3,14 +3,14 @@ use Prim.Native.Nat.{ℕ, _+_, _-_, _<_, _≤_}
 use native.Mathlib.Omega.{arith}
 use mathlib.Core.Path.{_≡_, refl, sym, ap, _∙_}
 use mathlib.Core.Logic.{inr}
-use mathlib.Core.Bool.{Bool, true, false, not, _&&_}
+use mathlib.Core.Bool.{Bool, true, false, not}
 use mathlib.Core.List.{List, [], _∷_, _++_}
 use lib.Dec.{eqb, leb}
 use lib.ListN.{length, getD, set, length-set}
 use lib.Seq.{sets, length-sets, getD-set-other}
 use borrow.Author.Tests.{leb-true, le-leb, lt-leb, ne-eqb}
 use Rattle.base.specs.Lists.{firstFailing, bytesAt}
-use Rattle.base.proofs.Lists.{Passed, none-fails, and-left}
+use Rattle.base.proofs.Lists.{Passed, none-fails}
 use Rattle.base.proofs.Stores.{length-bytes, bytes-same, getD-sets-out, bytes-sets}
 use Rattle.meaning.specs.declared.Refusal.{Refusal}
 use Rattle.meaning.specs.declared.Answer.{Answer}
@@ -18,12 +18,12 @@ use Rattle.meaning.specs.declared.Answer.the-variants.{Done, Refused}
 use Rattle.meaning.specs.Sizes.{timeWidth, littleEndian}
 use Rattle.meaning.specs.Program.{parts, variables}
 use Rattle.meaning.specs.Table.{isTable}
-use Rattle.meaning.specs.Record.{timePlace, estimatePlace, marksPlace, recordLength, phaseOf, lastTime, estimateIn, marksIn, offered, recordAllowed, restZero, valuesAllowed, clocksAllowed, rootAllowed, partsAllowed}
+use Rattle.meaning.specs.Record.{timePlace, estimatePlace, marksPlace, recordLength, phaseOf, lastTime, estimateIn, marksIn, offered}
 use Rattle.meaning.specs.Cycle.{leavesFrom, goalBytes, situation, checkedFrom, offerRefusal, checkedMarks, offeredGoals, offeredRecord, offeredInto, goalsInto}
 use Rattle.meaning.specs.Answers.{answered, refusalNumber, answerNumber}
 use Rattle.meaning.specs.Operations.{Offered}
 use Rattle.meaning.proofs.Answers.{is-refused, refused-before, left-open}
-use Rattle.meaning.proofs.Records.{length-checked}
+use Rattle.meaning.proofs.Records.{length-checked, allowed-long}
 use Rattle.meaning.proofs.Tables.{table-held}
 use Rattle.meaning.proofs.Entries.{length-goals}
 use Rattle.allowed.specs.Running.{runTests}
@@ -62,10 +62,6 @@ module _ (t r : List ℕ) (time room : ℕ) where
           none-refuses h = sym (then-late ∙ rw (← p-is, ne-eqb p offered waits, le-leb (lastTime r) time (rw (← l-is) in-time), le-leb (variables t) room (omega arith)))
 
 -- What an offer that is not refused finds
-allowed-long : (t r : List ℕ) → recordAllowed t r ≡ true → recordLength ≤ length r
-unfolding recordAllowed
-allowed-long t r h = leb-true recordLength (length r) (and-left (leb recordLength (length r)) (restZero t r && (valuesAllowed t r && (clocksAllowed t r && (rootAllowed (phaseOf r) (marksIn t r) && partsAllowed t (phaseOf r) 0 (marksIn t r))))) h)
-
 module _ (t r : List ℕ) (time room : ℕ) (free : offerRefusal t r time room ≡ 0) where
   offer-passes : Passed (runTests t r ++ lateTests t r time room)
   unfolding offerRefusal

@@ -15,10 +15,9 @@ use Rattle.meaning.specs.Kinds.{Kind}
 use Rattle.meaning.specs.Tree.{Part, children, size}
 use Rattle.meaning.specs.Program.{parts, variables, clocks}
 use Rattle.meaning.specs.Table.{endAt, parentAt, nextAt, insideOf, isTable}
-use Rattle.meaning.proofs.Trees.{All, part-ind, size-law}
+use Rattle.meaning.proofs.Trees.{All, part-ind, size-law, size-inner}
 use Rattle.meaning.proofs.Tables.{table-held, inside as within, root-end}
-use Rattle.agreement.proofs.Shapes.{size-inner}
-use Rattle.agreement.proofs.Lies.{Lies, LieIn, own-row, inside, first-lies, others-lie, root-lies}
+use Rattle.meaning.proofs.Lies.{Lies, LieIn, own-row, inside, first-lies, others-lie, root-lies}
 
 -- part p stands inside part q
 abbrev pub Inside : List ℕ → ℕ → ℕ → Type 0

@@ -17,7 +17,7 @@ use Rattle.meaning.specs.Program.{clocks, entryAt}
 use Rattle.meaning.specs.Table.{operandOf}
 use Rattle.meaning.specs.Record.{isMark}
 use Rattle.meaning.specs.Cycle.{isKind, isLeaf, leavesFrom, startsClock, clockFlags, clockStarts}
-use Rattle.agreement.proofs.LeavesAt.{leaf-marked}
+use Rattle.sentences.proofs.LeavesAt.{leaf-marked}
 
 -- part p is a marked START of clock c
 abbrev pub StartAt : List ℕ → List ℕ → ℕ → ℕ → Type 0

@@ -6,12 +6,11 @@ use mathlib.Core.Logic.{_↔_, _⊎_, inl, inr}
 use mathlib.Core.Bool.{Bool, true, false, cond, _&&_, _||_, false≢true, or-true}
 use mathlib.Core.List.{List, [], _∷_, _++_}
 use lib.Dec.{eqb}
-use lib.ListN.{length, getD, drop}
-use lib.Seq.{sets}
-use borrow.Author.Tests.{eqb-true, eqb-false, eq-eqb, ne-eqb, leb-true}
-use Rattle.base.specs.Lists.{all, any, bytesAt}
-use Rattle.base.proofs.Lists.{and-left, and-right}
-use Rattle.base.proofs.Stores.{bytes-sets, drop-sets-out, length-bytes}
+use lib.ListN.{length, getD}
+use borrow.Author.Tests.{eqb-true, eqb-false, eq-eqb}
+use Rattle.base.specs.Lists.{all, any}
+use Rattle.base.proofs.Lists.{and-left, and-right, fails-of-one, all-first}
+use Rattle.base.proofs.Stores.{length-bytes}
 use Rattle.meaning.specs.declared.Entry.{Entry}
 use Rattle.meaning.specs.declared.Form.the-variants.{Table}
 use Rattle.meaning.specs.Sizes.{maxValue}
@@ -19,12 +18,10 @@ use Rattle.meaning.specs.Kinds.{GOAL, value}
 use Rattle.meaning.specs.Program.{parts, variables, clocks, entryAt}
 use Rattle.meaning.specs.Table.{operandOf, isTable}
 use Rattle.meaning.specs.Record.{marksPlace, isMark, estimateIn, marksIn}
-use Rattle.meaning.specs.Cycle.{isKind, isLeaf, leavesFrom, noGoal, contested, valuesFor, goalByte, situation, checkedMarks, offeredGoals, offerRefusal, goalsInto}
-use Rattle.meaning.proofs.Entries.{entry-allowed, goal-fits, length-goals}
+use Rattle.meaning.specs.Cycle.{isKind, isLeaf, leavesFrom, noGoal, contested, valuesFor, goalByte, situation, checkedMarks, offeredGoals}
+use Rattle.meaning.proofs.Entries.{entry-allowed, goal-fits, byte-at}
 use Rattle.meaning.proofs.Records.{length-checked}
-use Rattle.agreement.proofs.Contested.{fails-of-one, all-first, byte-at}
-use Rattle.agreement.proofs.RecordFields.{offer-tests}
-use Rattle.agreement.proofs.LeavesAt.{leaf-marked}
+use Rattle.sentences.proofs.LeavesAt.{leaf-marked}
 
 -- part p is a marked GOAL that names variable v
 abbrev pub GoalAt : List ℕ → List ℕ → ℕ → ℕ → Type 0
@@ -159,23 +156,3 @@ module _ (t r : List ℕ) (time : ℕ) (table : isTable t ≡ true) (v : ℕ) (b
   -- "254 where two differ (contested)"
   pub goal-contested : (getD (offeredGoals t r time) v 0 ≡ contested) ↔ GoalsDiffer t (checkedMarks t r time) v
   goal-contested = says-contested _ t (checkedMarks t r time) v says
-
--- bytes written at the front of a buffer that has room for them
-front-written : (gs buffer : List ℕ) (n : ℕ) → length gs ≡ n → n ≤ length buffer → (bytesAt (sets buffer 0 gs) 0 n ≡ gs) × (drop n (sets buffer 0 gs) ≡ drop n buffer)
-front-written gs buffer n e h = (bytes-sets gs buffer 0 n e (omega arith), drop-sets-out gs buffer 0 n (omega arith))
-
--- an offer that is not refused has room for the goal bytes
-offer-room : (t r : List ℕ) (time room : ℕ) → offerRefusal t r time room ≡ 0 → variables t ≤ room
-offer-room t r time room h = leb-true (variables t) room (offer-tests t r time room h .1 .1 .1 .1 .1 .0)
-
-module _ (t r : List ℕ) (time : ℕ) (goals : List ℕ) where
-  -- the goal bytes stand at the front of the buffer, and "Further goal bytes are untouched"
-  pub goal-bytes-into : offerRefusal t r time (length goals) ≡ 0
-      → (bytesAt (goalsInto t r time goals) 0 (variables t) ≡ offeredGoals t r time) × (drop (variables t) (goalsInto t r time goals) ≡ drop (variables t) goals)
-  unfolding goalsInto
-  goal-bytes-into h = rw h (front-written (offeredGoals t r time) goals (variables t) (length-goals (variables t) (leavesFrom t 0 (checkedMarks t r time))) (offer-room t r time (length goals) h))
-
-  -- a refused offer changes no goal byte
-  pub goals-refused : (offerRefusal t r time (length goals) ≡ 0 → ⊥) → goalsInto t r time goals ≡ goals
-  unfolding goalsInto
-  goals-refused h = rw (ne-eqb (offerRefusal t r time (length goals)) 0 h)

@@ -3,24 +3,22 @@ use Prim.Native.Nat.{ℕ, zero, suc, _+_, _-_, _*_, _^_, _≤_, _<_}
 use native.Mathlib.Nat.{add-suc}
 use native.Mathlib.Omega.{arith}
 use mathlib.Core.Path.{_≡_, refl, sym, ap, ap₂, _∙_}
-use mathlib.Core.Bool.{Bool, true, cond, not, _||_}
+use mathlib.Core.Bool.{true, cond}
 use mathlib.Core.Logic.{inl, inr}
 use mathlib.Core.List.{List, [], _∷_, map}
-use lib.Dec.{eqb, leb}
-use borrow.Author.Tests.{ne-eqb}
 use lib.ListN.{length, getD, set, drop}
-use lib.Seq.{sets, length-sets, getD-set-same}
+use lib.Seq.{sets, length-sets}
 use Rattle.base.specs.Lists.{flat, bytesAt}
-use Rattle.base.proofs.Lists.{Passed, none-fails, length-tabulate, getD-tabulate, tabulate-same}
-use Rattle.base.proofs.Stores.{length-bytes, getD-bytes, drop-bytes, getD-sets-out, bytes-sets-out, bytes-sets, drop-sets-out}
+use Rattle.base.proofs.Lists.{length-tabulate, getD-tabulate, tabulate-same}
+use Rattle.base.proofs.Stores.{length-bytes, getD-bytes, drop-bytes, bytes-sets-out, bytes-sets, drop-sets-out}
 use Rattle.meaning.specs.Sizes.{maxParts, timeWidth, littleEndian, valueFrom}
 use Rattle.meaning.specs.Program.{parts, variables, clocks}
 use Rattle.meaning.specs.Table.{isTable}
-use Rattle.meaning.specs.Record.{timePlace, estimatePlace, startedPlace, startsPlace, marksPlace, recordLength, timeAt, phaseOf, lastTime, estimateIn, startedIn, startsIn, marksIn, recordAllowed, offered, waiting, finished}
-use Rattle.meaning.specs.Cycle.{checkedMarks, offeredRecord, offerRefusal, offeredInto, settledMarks, settledRecord, settleRefusal, settledInto, estimateAllowed, rootEnded, worksFrom, startingLeaves, clockFlags, clockStarts}
+use Rattle.meaning.specs.Record.{timePlace, estimatePlace, startedPlace, startsPlace, marksPlace, recordLength, timeAt, phaseOf, lastTime, estimateIn, startedIn, startsIn, marksIn, offered, waiting, finished}
+use Rattle.meaning.specs.Cycle.{checkedMarks, offeredRecord, offerRefusal, offeredInto, settledMarks, settledRecord, settleRefusal, settledInto, rootEnded, startingLeaves, clockFlags, clockStarts}
 use Rattle.meaning.proofs.Tables.{table-held}
-use Rattle.meaning.proofs.Records.{time-back, times-back, length-times, length-checked, length-settled, starts-below, estimate-fits}
-use Rattle.agreement.proofs.AllowedRecords.{allowed-record}
+use Rattle.meaning.proofs.Records.{time-back, times-back, length-times, length-checked, length-settled, starts-below, allowed-long, estimate-fits}
+use Rattle.meaning.proofs.Refusals.{offer-tests, settle-tests, settled-phase}
 
 -- the fields of a record, and the bytes after it
 pub record Fields (t r : List ℕ) (phase time : ℕ) (est started starts marks more : List ℕ) : Type 0 where
@@ -134,38 +132,13 @@ times-read : (t r xs : List ℕ) → length xs ≡ clocks t → ((c : ℕ) → c
 times-read t r xs n small long e =
     rw (← n) (times-back r xs (drop (startsPlace + timeWidth * clocks t) r) startsPlace 0 (rw e at (drop-bytes r startsPlace (timeWidth * clocks t) long)) small)
 
--- the tests of an offer and of a settling
-abbrev pub offer-list : List ℕ → List ℕ → ℕ → ℕ → List (ℕ × Bool)
-offer-list t r time room =
-    (9, isTable t)
-    ∷ (10, recordAllowed t r)
-    ∷ (14, not (eqb (phaseOf r) finished))
-    ∷ (11, not (eqb (phaseOf r) offered))
-    ∷ (12, leb (lastTime r) time)
-    ∷ (8, leb (variables t) room)
-    ∷ []
-
-abbrev pub settle-list : List ℕ → List ℕ → List ℕ → List (ℕ × Bool)
-settle-list t r est =
-    (9, isTable t)
-    ∷ (10, recordAllowed t r)
-    ∷ (14, not (eqb (phaseOf r) finished))
-    ∷ (11, not (eqb (phaseOf r) waiting))
-    ∷ (13, estimateAllowed t est)
-    ∷ (15, rootEnded (settledMarks t r est) || worksFrom t 0 (settledMarks t r est))
-    ∷ []
-
 -- "The phase becomes 1 and the time becomes the last time"; the marks are those that the check leaves, and all else stays
 module _ (t r : List ℕ) (time room : ℕ) (h : offerRefusal t r time room ≡ 0) where
-  pub offer-tests : Passed (offer-list t r time room)
-  unfolding offerRefusal
-  offer-tests = none-fails (offer-list t r time room) refl h
-
   pub offered-record : time < 256 ^ timeWidth → Fields t (offeredInto t r time room) offered time (estimateIn t r) (startedIn t r) (startsIn t r) (checkedMarks t r time) (drop recordLength r)
   unfolding offeredInto
   offered-record fits =
-      let a = put-all (fields t) (in-order t (offer-tests .0)) ((0, offered ∷ []) ∷ (1, littleEndian timeWidth time) ∷ (5, checkedMarks t r time) ∷ [])
-      ((omega arith, refl, (omega arith, refl, (omega arith, length-checked t _ 0 (marksIn t r) 0 ∙ length-bytes r marksPlace (parts t), tt)))) r (allowed-record t r (offer-tests .1 .0) .long-enough) in
+      let a = put-all (fields t) (in-order t (offer-tests t r time room h .0)) ((0, offered ∷ []) ∷ (1, littleEndian timeWidth time) ∷ (5, checkedMarks t r time) ∷ [])
+      ((omega arith, refl, (omega arith, refl, (omega arith, length-checked t _ 0 (marksIn t r) 0 ∙ length-bytes r marksPlace (parts t), tt)))) r (allowed-long t r (offer-tests t r time room h .1 .0)) in
       rw h
       (record {
         phase-is = ap (λ (cs : List (List ℕ)). getD (getD cs 0 []) 0 0) (a .1);
@@ -179,10 +152,6 @@ module _ (t r : List ℕ) (time room : ℕ) (h : offerRefusal t r time room ≡ 
 
 -- "If the root ends, phase is 2, else 0"; "The new estimate is stored"; clocks and marks are those of the settling, and all else stays
 module _ (t r est : List ℕ) (h : settleRefusal t r est ≡ 0) where
-  pub settle-tests : Passed (settle-list t r est)
-  unfolding settleRefusal
-  settle-tests = none-fails (settle-list t r est) refl h
-
   abbrev flags : List ℕ
   flags = clockFlags (clocks t) (startingLeaves t r) (startedIn t r)
 
@@ -195,16 +164,6 @@ module _ (t r est : List ℕ) (h : settleRefusal t r est ≡ 0) where
       (λ c l. rw getD-tabulate (time-small r bytes (startsPlace + timeWidth * (0 + c))))
       (time-small r bytes timePlace)
 
-  -- the phase is the first byte, and no later store reaches it
-  pub settled-phase : phaseOf (settledRecord t r est) ≡ cond (rootEnded (settledMarks t r est)) finished waiting
-  settled-phase =
-      let phase = cond (rootEnded (settledMarks t r est)) finished waiting in
-      getD-sets-out (settledMarks t r est) _ marksPlace 0 (inl (omega arith))
-      ∙ getD-sets-out (flat (littleEndian timeWidth) times) _ startsPlace 0 (inl (omega arith))
-      ∙ getD-sets-out flags _ startedPlace 0 (inl (omega arith))
-      ∙ getD-sets-out est (set r 0 phase) estimatePlace 0 (inl (omega arith))
-      ∙ getD-set-same r 0 phase 0 (omega (arith, allowed-record t r (settle-tests .1 .0) .long-enough))
-
   -- a time is read back where the record is one of bytes
   pub settled-record : ((i : ℕ) → getD r i 0 < 256)
       → Fields t (settledInto t r est) (cond (rootEnded (settledMarks t r est)) finished waiting) (lastTime r) est flags times (settledMarks t r est) (drop recordLength r)
@@ -212,13 +171,13 @@ module _ (t r est : List ℕ) (h : settleRefusal t r est ≡ 0) where
   settled-record bytes =
       let n : length times ≡ clocks t = length-tabulate _ 0 (clocks t) in
       let w : length (flat (littleEndian timeWidth) times) ≡ timeWidth * clocks t = rw n at (length-times times) in
-      let order = in-order t (settle-tests .0) in
+      let order = in-order t (settle-tests t r est h .0) in
       let a = put-all (fields t) order ((0, cond (rootEnded (settledMarks t r est)) finished waiting ∷ []) ∷ (2, est) ∷ (3, flags) ∷ (4, flat (littleEndian timeWidth) times) ∷ (5, settledMarks t r est) ∷ [])
-      (omega arith, refl, (omega arith, estimate-fits t est (settle-tests .1 .1 .1 .1 .0) .0, (omega arith, length-tabulate _ 0 (clocks t), (omega arith, w, (omega arith, length-settled t _ 0 (marksIn t r) ∙ length-bytes r marksPlace (parts t), tt)))))
-      r (allowed-record t r (settle-tests .1 .0) .long-enough) in
+      (omega arith, refl, (omega arith, estimate-fits t est (settle-tests t r est h .1 .1 .1 .1 .0) .0, (omega arith, length-tabulate _ 0 (clocks t), (omega arith, w, (omega arith, length-settled t _ 0 (marksIn t r) ∙ length-bytes r marksPlace (parts t), tt)))))
+      r (allowed-long t r (settle-tests t r est h .1 .0)) in
       rw h
       (record {
-        phase-is = settled-phase;
+        phase-is = settled-phase t r est h;
         time-is = time-same (settledRecord t r est) r timePlace timeWidth (ap (λ (cs : List (List ℕ)). getD cs 1 []) (a .1)) 0 (omega arith);
         estimate-is = ap (λ (cs : List (List ℕ)). getD cs 2 []) (a .1);
         started-is = ap (λ (cs : List (List ℕ)). getD cs 3 []) (a .1);
@@ -226,12 +185,3 @@ module _ (t r est : List ℕ) (h : settleRefusal t r est ≡ 0) where
         marks-are = ap (λ (cs : List (List ℕ)). getD cs 5 []) (a .1);
         more-is = a .2;
       })
-
--- "A refusal returns only its number; no buffer changes"
-pub offer-refused : (t r : List ℕ) (time room : ℕ) → (offerRefusal t r time room ≡ 0 → ⊥) → offeredInto t r time room ≡ r
-unfolding offeredInto
-offer-refused t r time room h = rw (ne-eqb (offerRefusal t r time room) 0 h)
-
-pub settle-refused : (t r est : List ℕ) → (settleRefusal t r est ≡ 0 → ⊥) → settledInto t r est ≡ r
-unfolding settledInto
-settle-refused t r est h = rw (ne-eqb (settleRefusal t r est) 0 h)

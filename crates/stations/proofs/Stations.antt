@@ -8,9 +8,9 @@ use Rattle.meaning.specs.Table.{nextOf, block, tableOf, compiled, fileIn, isTab
 use Rattle.meaning.specs.Conditions.{outcome, reached, satisfied, violated}
 use Rattle.meaning.specs.Record.{restZero, valuesAllowed, clockAllowed, clocksAllowed, markedChildren, childrenAllowed, partsAllowed, rootAllowed, recordBytes, recordAllowed}
 use Rattle.meaning.specs.Cycle.{beginsIn, freshFrom, fresh, checkedFrom, leavesFrom, valuesFor, goalBytes, fate, applied, settledFrom, estimateAllowed, freshRecord, beginRefusal, begunInto, offerRefusal, offeredInto, goalsInto, worksFrom, settleRefusal, settledInto}
 use Rattle.agreement.specs.Unfolding.{afresh, check, working, settle}
 use Rattle.agreement.specs.Runs.{treeNext, treeReply, tableFinishing, treeFinishing}
-use Rattle.agreement.specs.Stations.{stations, further, sameReply, sameReplies, byTable, byTree, holds, allHold}
+use Rattle.stations.specs.Stations.{stations, further, sameReply, sameReplies, byTable, byTree, holds, allHold}
 
 pub ten-stations : allHold ≡ true
 unfolding stations further tableFinishing treeFinishing sameReply sameReplies byTable byTree holds kindOf numberOf known arity testOf testAllowed conditionAllowed goalAllowed startAllowed countAllowed emptyAllowed operandAllowed fold depth size sizesAllowed entriesFrom entries preorder knownEntry allowedEntry arityOf make place trees treeOf programRefusal nextOf block tableOf compiled fileIn isTable outcome reached satisfied violated restZero valuesAllowed clockAllowed clocksAllowed markedChildren childrenAllowed partsAllowed rootAllowed recordBytes recordAllowed beginsIn freshFrom fresh checkedFrom leavesFrom valuesFor goalBytes fate applied settledFrom estimateAllowed freshRecord beginRefusal begunInto offerRefusal offeredInto goalsInto worksFrom settleRefusal settledInto afresh check working settle treeNext treeReply

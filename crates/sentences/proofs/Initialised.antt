@@ -8,7 +8,6 @@ use mathlib.Core.Logic.{_⊎_, inl, inr}
 use mathlib.Core.List.{List, _++_}
 use lib.ListN.{length, getD, drop, replicate}
 use lib.Seq.{drop-append-seam}
-use borrow.Author.Tests.{ne-eqb}
 use Rattle.base.specs.Lists.{flag}
 use Rattle.meaning.specs.Program.{parts, clocks}
 use Rattle.meaning.specs.Table.{endAt, parentAt, insideOf, isTable}
@@ -16,8 +15,8 @@ use Rattle.meaning.specs.Record.{recordLength, waiting, isMark, recordBytes}
 use Rattle.meaning.specs.Cycle.{begins, freshFrom, fresh, beginRefusal, begunInto}
 use Rattle.meaning.proofs.Tables.{inside as within}
 use Rattle.meaning.proofs.Records.{Fits, length-record, phase-read, time-read, estimate-read, started-read, starts-read, marks-read, length-fresh, length-root, begin-tests, begun-fits, begun-bytes}
-use Rattle.agreement.proofs.RecordFields.{Fields}
-use Rattle.agreement.proofs.Nesting.{Inside, parent-inside, inside-parent, Closed, closed-inside, closed-none, closed-rest}
+use Rattle.sentences.proofs.RecordFields.{Fields}
+use Rattle.sentences.proofs.Nesting.{Inside, parent-inside, inside-parent, Closed, closed-inside, closed-none, closed-rest}
 
 -- part q's marks once it is initialised, by the numbers of the parts
 module _ (t : List ℕ) (table : isTable t ≡ true) (q : ℕ) (marked : ℕ → ℕ) where
@@ -172,8 +171,3 @@ module _ (t est r : List ℕ) where
         marks-are = marks-read fits waiting more;
         more-is = ap (λ (n : ℕ). drop n (bytes ++ more)) (sym (length-record (fits .shape) waiting 0)) ∙ drop-append-seam bytes more;
       })
-
-  -- "A refused call changes nothing"
-  pub begin-refused : (beginRefusal t est (length r) ≡ 0 → ⊥) → begunInto t est r ≡ r
-  unfolding begunInto
-  begin-refused h = rw (ne-eqb (beginRefusal t est (length r)) 0 h)

@@ -21,7 +21,7 @@ use Rattle.meaning.specs.Record.{estimatePlace, startedPlace, startsPlace, mark
 use Rattle.meaning.specs.Tree.{Part, goal, start, wait, seq, par, maintain, choice, repeat, kind, children, size}
 use Rattle.meaning.proofs.Trees.{All, part-ind, size-law}
 use Rattle.meaning.proofs.Tables.{table-held}
-use Rattle.agreement.proofs.Lies.{Lies, LieIn, own-row, own-kind, inside, first-lies, others-lie, root-lies}
+use Rattle.meaning.proofs.Lies.{Lies, LieIn, own-row, own-kind, inside, first-lies, others-lie, root-lies}
 
 -- Tests and the facts that they test
 both : {P Q : Type 0} (a b : Bool) → (a ≡ true) ↔ P → (b ≡ true) ↔ Q → ((a && b) ≡ true) ↔ (P × Q)

@@ -24,10 +24,10 @@ use Rattle.meaning.specs.declared.Fate.the-variants.{Stays, Ends, First, Second
 use Rattle.meaning.specs.Cycle.{fresh, begun, settledFrom, situation, settledMarks}
 use Rattle.meaning.proofs.Tables.{Later, Inside, inside}
 use Rattle.meaning.proofs.Records.{length-fresh, length-settled}
-use Rattle.agreement.proofs.Lies.{Lies, own-kind, own-inside}
-use Rattle.agreement.proofs.Nesting.{lower, at, root-next, inside-root, nested}
-use Rattle.agreement.proofs.Followers.{Followed, Branches, next-nested, choice-branches}
-use Rattle.agreement.proofs.Settlings.{Marked, later, insideBefore, insideAfter, fateAt, EndsAt, TakesFirst, TakesSecond, marked-length, decides, decides-kind, composite-ends, deciding-stays, unmarked-unjudged, end-no-next, end-next, decides-first, decides-second, stays, kept-own}
+use Rattle.meaning.proofs.Lies.{Lies, own-kind, own-inside}
+use Rattle.sentences.proofs.Nesting.{lower, at, root-next, inside-root, nested}
+use Rattle.sentences.proofs.Followers.{Followed, Branches, next-nested, choice-branches}
+use Rattle.sentences.proofs.Settlings.{Marked, later, insideBefore, insideAfter, fateAt, EndsAt, TakesFirst, TakesSecond, marked-length, decides, decides-kind, composite-ends, deciding-stays, unmarked-unjudged, end-no-next, end-next, decides-first, decides-second, stays, kept-own}
 
 -- a part that was marked and does not end
 abbrev pub Kept : List ℕ → Situation → List ℕ → ℕ → Type 0

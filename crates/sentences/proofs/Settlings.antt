@@ -21,8 +21,8 @@ use Rattle.meaning.specs.declared.Fate.{Fate}
 use Rattle.meaning.specs.declared.Fate.the-variants.{Stays, Ends, First, Second}
 use Rattle.meaning.specs.Cycle.{endsIf, fate, fresh, applied, settledPart, settledFrom, rootEnded}
 use Rattle.meaning.proofs.Tables.{root-there}
-use Rattle.agreement.proofs.Nesting.{lower, root-next}
-use Rattle.agreement.proofs.Followers.{choice-branches}
+use Rattle.sentences.proofs.Nesting.{lower, root-next}
+use Rattle.sentences.proofs.Followers.{choice-branches}
 
 -- For marks ms before a settling: part p is marked
 abbrev pub Marked : List ℕ → ℕ → Type 0

@@ -6,16 +6,15 @@ use mathlib.Core.Path.{_≡_, refl, ap, _∙_}
 use mathlib.Core.List.{List, [], _∷_, _++_, map}
 use lib.ListN.{length, getD}
 use Rattle.base.specs.Lists.{nonempty}
 use Rattle.meaning.specs.declared.Form.the-variants.{Table}
 use Rattle.meaning.specs.Sizes.{maxParts, noPart}
 use Rattle.meaning.specs.Kinds.{Kind, kindOf, numberOf}
 use Rattle.meaning.specs.Tree.{Part, kind, children, operand, size}
 use Rattle.meaning.specs.Program.{entryAt, sizeBytes, Within}
 use Rattle.meaning.specs.Table.{Row, nextOf, siblings, block, tableOf, endAt, parentAt, nextAt, kindAt, insideOf}
-use Rattle.meaning.proofs.Trees.{rows-law, block-parts}
+use Rattle.meaning.proofs.Trees.{rows-law, block-parts, inner, size-inner}
 use Rattle.meaning.proofs.Parsing.{kind-number}
 use Rattle.meaning.proofs.Tables.{rowEntry, length-rows, noRow, treeRows, row-entry, end-at, parent-at, next-at}
-use Rattle.agreement.proofs.Shapes.{inner, size-inner}
 
 -- a row stands at a number in a table
 pub record Stands (t : List ℕ) (n : ℕ) (r : Row) : Type 0 where

@@ -1,0 +1,95 @@
+-- The tests that a call has passed where it is not refused, what it then leaves at the front of its buffers, and that a refused one changes nothing.
+use Prim.Native.Nat.{ℕ, _≤_}
+use native.Mathlib.Omega.{arith}
+use mathlib.Core.Path.{_≡_, refl, _∙_}
+use mathlib.Core.Bool.{Bool, cond, not, _||_}
+use mathlib.Core.Logic.{inl}
+use mathlib.Core.List.{List, [], _∷_}
+use lib.Dec.{eqb, leb}
+use lib.ListN.{length, set, drop}
+use lib.Seq.{sets, getD-set-same}
+use borrow.Author.Tests.{leb-true, ne-eqb}
+use Rattle.base.specs.Lists.{flat, bytesAt}
+use Rattle.base.proofs.Lists.{Passed, none-fails}
+use Rattle.base.proofs.Stores.{getD-sets-out, bytes-sets, drop-sets-out}
+use Rattle.meaning.specs.Sizes.{timeWidth, littleEndian}
+use Rattle.meaning.specs.Program.{variables, clocks}
+use Rattle.meaning.specs.Table.{isTable}
+use Rattle.meaning.specs.Record.{estimatePlace, startedPlace, startsPlace, marksPlace, phaseOf, lastTime, startedIn, startsIn, recordAllowed, offered, waiting, finished}
+use Rattle.meaning.specs.Cycle.{beginRefusal, begunInto, checkedMarks, leavesFrom, offerRefusal, offeredGoals, offeredInto, goalsInto, settledMarks, settledRecord, settleRefusal, settledInto, estimateAllowed, rootEnded, worksFrom, startingLeaves, clockFlags, clockStarts}
+use Rattle.meaning.proofs.Entries.{length-goals}
+use Rattle.meaning.proofs.Records.{allowed-long}
+
+-- the tests of an offer and of a settling
+abbrev pub offer-list : List ℕ → List ℕ → ℕ → ℕ → List (ℕ × Bool)
+offer-list t r time room =
+    (9, isTable t)
+    ∷ (10, recordAllowed t r)
+    ∷ (14, not (eqb (phaseOf r) finished))
+    ∷ (11, not (eqb (phaseOf r) offered))
+    ∷ (12, leb (lastTime r) time)
+    ∷ (8, leb (variables t) room)
+    ∷ []
+
+abbrev pub settle-list : List ℕ → List ℕ → List ℕ → List (ℕ × Bool)
+settle-list t r est =
+    (9, isTable t)
+    ∷ (10, recordAllowed t r)
+    ∷ (14, not (eqb (phaseOf r) finished))
+    ∷ (11, not (eqb (phaseOf r) waiting))
+    ∷ (13, estimateAllowed t est)
+    ∷ (15, rootEnded (settledMarks t r est) || worksFrom t 0 (settledMarks t r est))
+    ∷ []
+
+module _ (t r : List ℕ) (time room : ℕ) (h : offerRefusal t r time room ≡ 0) where
+  pub offer-tests : Passed (offer-list t r time room)
+  unfolding offerRefusal
+  offer-tests = none-fails (offer-list t r time room) refl h
+
+  -- an offer that is not refused has room for the goal bytes
+  offer-room : variables t ≤ room
+  offer-room = leb-true (variables t) room (offer-tests .1 .1 .1 .1 .1 .0)
+
+-- bytes written at the front of a buffer that has room for them
+front-written : (gs buffer : List ℕ) (n : ℕ) → length gs ≡ n → n ≤ length buffer → (bytesAt (sets buffer 0 gs) 0 n ≡ gs) × (drop n (sets buffer 0 gs) ≡ drop n buffer)
+front-written gs buffer n e h = (bytes-sets gs buffer 0 n e (omega arith), drop-sets-out gs buffer 0 n (omega arith))
+
+-- the goal bytes stand at the front of the buffer, and "Further goal bytes are untouched"
+pub goal-bytes-into : (t r : List ℕ) (time : ℕ) (goals : List ℕ) → offerRefusal t r time (length goals) ≡ 0
+    → (bytesAt (goalsInto t r time goals) 0 (variables t) ≡ offeredGoals t r time) × (drop (variables t) (goalsInto t r time goals) ≡ drop (variables t) goals)
+unfolding goalsInto
+goal-bytes-into t r time goals h = rw h (front-written (offeredGoals t r time) goals (variables t) (length-goals (variables t) (leavesFrom t 0 (checkedMarks t r time))) (offer-room t r time (length goals) h))
+
+module _ (t r est : List ℕ) (h : settleRefusal t r est ≡ 0) where
+  pub settle-tests : Passed (settle-list t r est)
+  unfolding settleRefusal
+  settle-tests = none-fails (settle-list t r est) refl h
+
+  -- the phase is the first byte, and no later store reaches it
+  pub settled-phase : phaseOf (settledRecord t r est) ≡ cond (rootEnded (settledMarks t r est)) finished waiting
+  settled-phase =
+      let phase = cond (rootEnded (settledMarks t r est)) finished waiting in
+      let flags = clockFlags (clocks t) (startingLeaves t r) (startedIn t r) in
+      let times = clockStarts (clocks t) (startingLeaves t r) (startedIn t r) (startsIn t r) (lastTime r) in
+      getD-sets-out (settledMarks t r est) _ marksPlace 0 (inl (omega arith))
+      ∙ getD-sets-out (flat (littleEndian timeWidth) times) _ startsPlace 0 (inl (omega arith))
+      ∙ getD-sets-out flags _ startedPlace 0 (inl (omega arith))
+      ∙ getD-sets-out est (set r 0 phase) estimatePlace 0 (inl (omega arith))
+      ∙ getD-set-same r 0 phase 0 (omega (arith, allowed-long t r (settle-tests .1 .0)))
+
+-- "A refused call changes nothing"
+pub begin-refused : (t est r : List ℕ) → (beginRefusal t est (length r) ≡ 0 → ⊥) → begunInto t est r ≡ r
+unfolding begunInto
+begin-refused t est r h = rw (ne-eqb (beginRefusal t est (length r)) 0 h)
+
+pub offer-refused : (t r : List ℕ) (time room : ℕ) → (offerRefusal t r time room ≡ 0 → ⊥) → offeredInto t r time room ≡ r
+unfolding offeredInto
+offer-refused t r time room h = rw (ne-eqb (offerRefusal t r time room) 0 h)
+
+pub goals-refused : (t r : List ℕ) (time : ℕ) (goals : List ℕ) → (offerRefusal t r time (length goals) ≡ 0 → ⊥) → goalsInto t r time goals ≡ goals
+unfolding goalsInto
+goals-refused t r time goals h = rw (ne-eqb (offerRefusal t r time (length goals)) 0 h)
+
+pub settle-refused : (t r est : List ℕ) → (settleRefusal t r est ≡ 0 → ⊥) → settledInto t r est ≡ r
+unfolding settledInto
+settle-refused t r est h = rw (ne-eqb (settleRefusal t r est) 0 h)

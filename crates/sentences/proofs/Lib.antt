@@ -1,0 +1,11 @@
+pub mod Nesting
+pub mod Checked
+pub mod RecordFields
+pub mod Initialised
+pub mod AllowedRecords
+pub mod LeavesAt
+pub mod GoalBytes
+pub mod ClockStarts
+pub mod Followers
+pub mod Settlings
+pub mod AfterSettling

@@ -1,0 +1,195 @@
+-- One doubtful cycle, every value of it: a MAINTAIN's condition breaks just as a clock comes due, three parts deep. docs/DEFINITIONS.md goes
+-- through it; each fact here is computed from the definitions.
+use Prim.Native.Nat.{ℕ}
+use mathlib.Core.Path.{_≡_, refl}
+use mathlib.Core.Bool.{true, false}
+use mathlib.Core.Logic.{inl, inr}
+use mathlib.Core.Option.{some}
+use mathlib.Core.List.{List, [], _∷_}
+use lib.ListN.{replicate}
+use Rattle.meaning.specs.declared.Operand.{Operand}
+use Rattle.meaning.specs.declared.Form.the-variants.{File}
+use Rattle.meaning.specs.declared.Fate.the-variants.{Stays, Ends}
+use Rattle.meaning.specs.declared.Outcome.the-variants.{Satisfied, Violated}
+use Rattle.meaning.specs.Kinds.{SEQ, MAINTAIN, kindOf, numberOf, known, arity, testOf, testAllowed, conditionAllowed, goalAllowed, startAllowed, countAllowed, emptyAllowed, operandAllowed}
+use Rattle.meaning.specs.Tree.{Part, fold, size, depth, goal, start, wait, seq, maintain, one, more}
+use Rattle.meaning.specs.Program.{sizesAllowed, entriesFrom, entries, preorder, knownEntry, allowedEntry, arityOf, make, place, trees, treeOf, programRefusal}
+use Rattle.meaning.specs.Table.{operandOf, nextAt, nextOf, block, tableOf, compiled, fileIn, isTable}
+use Rattle.meaning.specs.Conditions.{Situation, outcome, reached, satisfied, violated}
+use Rattle.meaning.specs.Record.{recordLength, phaseOf, lastTime, estimateIn, startedIn, startsIn, marksIn, restZero, valuesAllowed, clockAllowed, clocksAllowed, markedChildren, childrenAllowed, partsAllowed, rootAllowed, recordBytes, recordAllowed}
+use Rattle.meaning.specs.Cycle.{beginsIn, freshFrom, fresh, breaks, checkedFrom, leavesFrom, valuesFor, goalBytes, fate, applied, settledFrom, situation, estimateAllowed, freshRecord, beginRefusal, begunInto, offerRefusal, offeredInto, goalsInto, worksFrom, settleRefusal, settledInto}
+use Rattle.agreement.specs.Unfolding.{Rest, broken, holding, afresh, check, working, settle}
+
+-- SEQ(MAINTAIN(variable 1 equals 0, SEQ(START 0, WAIT clock 0 at least 10, GOAL 0=2)), GOAL 0=1)
+abbrev pub file : List ℕ
+file =
+    7 ∷ 2 ∷ 1
+    ∷ 4 ∷ 6 ∷ 4 ∷ 2 ∷ 3 ∷ 1 ∷ 1
+    ∷ 2 ∷ 0 ∷ 0 ∷ 0
+    ∷ 1 ∷ 1 ∷ 0 ∷ 0
+    ∷ 3 ∷ 0 ∷ 0 ∷ 0
+    ∷ 0 ∷ 0 ∷ 0 ∷ 0
+    ∷ 3 ∷ 0 ∷ 10 ∷ 0
+    ∷ 0 ∷ 0 ∷ 2 ∷ 0
+    ∷ 0 ∷ 0 ∷ 1 ∷ 0
+    ∷ []
+
+-- its table: kind, end, parent, next and operand of each part
+abbrev pub table : List ℕ
+table =
+    7 ∷ 2 ∷ 1
+    ∷ 4 ∷ 7 ∷ 255 ∷ 255 ∷ 2 ∷ 0 ∷ 0 ∷ 0
+    ∷ 6 ∷ 6 ∷ 0 ∷ 6 ∷ 1 ∷ 1 ∷ 0 ∷ 0
+    ∷ 4 ∷ 6 ∷ 1 ∷ 255 ∷ 3 ∷ 0 ∷ 0 ∷ 0
+    ∷ 2 ∷ 4 ∷ 2 ∷ 4 ∷ 0 ∷ 0 ∷ 0 ∷ 0
+    ∷ 3 ∷ 5 ∷ 2 ∷ 5 ∷ 3 ∷ 0 ∷ 10 ∷ 0
+    ∷ 1 ∷ 6 ∷ 2 ∷ 255 ∷ 0 ∷ 0 ∷ 2 ∷ 0
+    ∷ 1 ∷ 7 ∷ 0 ∷ 255 ∷ 0 ∷ 0 ∷ 1 ∷ 0
+    ∷ []
+
+pub table-is : compiled File file ≡ table
+unfolding kindOf numberOf known arity fold depth size sizesAllowed entriesFrom entries preorder arityOf make place trees treeOf nextOf block tableOf compiled
+table-is = refl
+
+-- The record after a beginning, and after cycles at 100 and 109; in the second the frame tilts: the settling's estimate has 1 for variable 1
+abbrev pub level : List ℕ
+level = 0 ∷ 0 ∷ []
+
+abbrev pub tilted : List ℕ
+tilted = 0 ∷ 1 ∷ []
+
+abbrev pub cycle : List ℕ → ℕ → List ℕ → List ℕ
+cycle r time est = settledInto table (offeredInto table r time 2) est
+
+abbrev pub begun : List ℕ
+begun = begunInto table level (replicate recordLength 0)
+
+abbrev pub before : List ℕ
+before = cycle (cycle begun 100 level) 109 tilted
+
+-- the record after the offer at 110, and after the settling that follows it
+abbrev pub offered : List ℕ
+offered = offeredInto table before 110 2
+
+abbrev pub after : List ℕ
+after = settledInto table offered level
+
+-- what a record says: the marks of the parts 0 to 6, the phase, the last time, the estimate, and the clock
+pub record Says (r marks : List ℕ) (phase time : ℕ) (estimate started starts : List ℕ) : Type 0 where
+  pub marks-are : marksIn table r ≡ marks
+  pub phase-is : phaseOf r ≡ phase
+  pub time-is : lastTime r ≡ time
+  pub estimate-is : estimateIn table r ≡ estimate
+  pub started-are : startedIn table r ≡ started
+  pub starts-are : startsIn table r ≡ starts
+
+-- The offer at 110. By the stored estimate and this time the clock comes due and the MAINTAIN is violated
+abbrev pub offering : Situation
+offering = record { estimate = tilted; started = 1 ∷ []; starts = 100 ∷ []; time = 110 }
+
+pub clock-due : outcome offering (operandOf table 4) ≡ Satisfied
+unfolding testOf outcome
+clock-due = refl
+
+pub condition-breaks : outcome offering (operandOf table 1) ≡ Violated
+unfolding testOf outcome
+condition-breaks = refl
+
+pub breaks-1 : breaks table offering 1 1 ≡ true
+unfolding numberOf testOf outcome violated
+breaks-1 = refl
+
+pub checked : checkedFrom table offering 0 (1 ∷ 1 ∷ 1 ∷ 0 ∷ 1 ∷ 0 ∷ 0 ∷ []) 0 ≡ 1 ∷ 1 ∷ 0 ∷ 0 ∷ 0 ∷ 0 ∷ 0 ∷ []
+unfolding numberOf testOf outcome violated checkedFrom
+checked = refl
+
+pub nothing-offered : leavesFrom table 0 (1 ∷ 1 ∷ 0 ∷ 0 ∷ 0 ∷ 0 ∷ 0 ∷ []) ≡ []
+unfolding numberOf leavesFrom
+nothing-offered = refl
+
+pub goals : goalBytes 2 [] ≡ 255 ∷ 255 ∷ []
+unfolding valuesFor goalBytes
+goals = refl
+
+-- The settling, whose estimate has the frame level again. The passes go from the last part down: the marks from part p on, for p = 6 to 0
+abbrev pub settling : Situation
+settling = record { estimate = level; started = 1 ∷ []; starts = 100 ∷ []; time = 110 }
+
+pub from-6 : settledFrom table settling 6 (0 ∷ []) ≡ 0 ∷ []
+unfolding settledFrom
+from-6 = refl
+
+pub from-2 : settledFrom table settling 2 (0 ∷ 0 ∷ 0 ∷ 0 ∷ 0 ∷ []) ≡ 0 ∷ 0 ∷ 0 ∷ 0 ∷ 0 ∷ []
+unfolding settledFrom
+from-2 = refl
+
+pub fate-1 : fate settling MAINTAIN (operandOf table 1) false false ≡ Ends
+unfolding fate
+fate-1 = refl
+
+pub next-1 : nextAt table 1 ≡ 6
+next-1 = refl
+
+pub from-1 : settledFrom table settling 1 (1 ∷ 0 ∷ 0 ∷ 0 ∷ 0 ∷ 0 ∷ []) ≡ 0 ∷ 0 ∷ 0 ∷ 0 ∷ 0 ∷ 1 ∷ []
+unfolding kindOf numberOf beginsIn freshFrom fresh fate applied settledFrom
+from-1 = refl
+
+pub fate-0 : fate settling SEQ (operandOf table 0) true true ≡ Stays
+unfolding fate
+fate-0 = refl
+
+pub from-0 : settledFrom table settling 0 (1 ∷ 1 ∷ 0 ∷ 0 ∷ 0 ∷ 0 ∷ 0 ∷ []) ≡ 1 ∷ 0 ∷ 0 ∷ 0 ∷ 0 ∷ 0 ∷ 1 ∷ []
+unfolding kindOf numberOf beginsIn freshFrom fresh fate applied settledFrom
+from-0 = refl
+
+-- the run up to the doubtful cycle and over it
+pub record Worked : Type 0 where
+  pub begun-says : Says begun (1 ∷ 1 ∷ 1 ∷ 1 ∷ 0 ∷ 0 ∷ 0 ∷ []) 0 0 level (0 ∷ []) (0 ∷ [])
+  pub before-says : Says before (1 ∷ 1 ∷ 1 ∷ 0 ∷ 1 ∷ 0 ∷ 0 ∷ []) 0 109 tilted (1 ∷ []) (100 ∷ [])
+  pub offer-judges : situation table before (estimateIn table before) 110 ≡ offering
+  pub offered-says : Says offered (1 ∷ 1 ∷ 0 ∷ 0 ∷ 0 ∷ 0 ∷ 0 ∷ []) 1 110 tilted (1 ∷ []) (100 ∷ [])
+  pub settling-judges : situation table offered level (lastTime offered) ≡ settling
+  pub after-says : Says after (1 ∷ 0 ∷ 0 ∷ 0 ∷ 0 ∷ 0 ∷ 1 ∷ []) 0 110 level (1 ∷ []) (100 ∷ [])
+
+pub worked : Worked
+unfolding kindOf numberOf known arity testOf testAllowed conditionAllowed goalAllowed startAllowed countAllowed emptyAllowed operandAllowed fold depth size sizesAllowed entriesFrom entries preorder knownEntry allowedEntry arityOf make place trees treeOf programRefusal nextOf block tableOf compiled fileIn isTable outcome reached satisfied violated restZero valuesAllowed clockAllowed clocksAllowed markedChildren childrenAllowed partsAllowed rootAllowed recordBytes recordAllowed beginsIn freshFrom fresh checkedFrom leavesFrom valuesFor goalBytes fate applied settledFrom estimateAllowed freshRecord beginRefusal begunInto offerRefusal offeredInto goalsInto worksFrom settleRefusal settledInto
+worked =
+    record {
+      begun-says = record { marks-are = refl; phase-is = refl; time-is = refl; estimate-is = refl; started-are = refl; starts-are = refl };
+      before-says = record { marks-are = refl; phase-is = refl; time-is = refl; estimate-is = refl; started-are = refl; starts-are = refl };
+      offer-judges = refl;
+      offered-says = record { marks-are = refl; phase-is = refl; time-is = refl; estimate-is = refl; started-are = refl; starts-are = refl };
+      settling-judges = refl;
+      after-says = record { marks-are = refl; phase-is = refl; time-is = refl; estimate-is = refl; started-are = refl; starts-are = refl };
+    }
+
+-- The same cycle by unfolding the tree
+abbrev pub operand : ℕ → ℕ → ℕ → Operand
+operand b0 b1 b2 = record { b0 = b0; b1 = b1; b2 = b2; b3 = 0 }
+
+abbrev pub tree : Part
+tree =
+    seq
+    (more
+    (maintain (operand 1 1 0) (seq (more (start (operand 0 0 0)) (more (wait (operand 3 0 10)) (one (goal (operand 0 0 2)))))))
+    (one (goal (operand 0 0 1))))
+
+pub tree-is : treeOf File file ≡ some tree
+unfolding kindOf numberOf known arity entriesFrom entries arityOf make place trees treeOf
+tree-is = refl
+
+-- the SEQ is at its first child, a MAINTAIN that holds, whose SEQ is at its second
+abbrev pub at-wait : Rest tree
+at-wait = inl (holding (inr (inl tt)))
+
+pub offer-breaks : check offering tree at-wait ≡ inl broken
+unfolding testOf outcome violated check
+offer-breaks = refl
+
+pub nothing-works : working tree (inl broken) ≡ []
+unfolding working
+nothing-works = refl
+
+pub settling-ends : settle settling tree (inl broken) ≡ some (inr tt)
+unfolding afresh settle
+settling-ends = refl
