@@ -1,0 +1,7 @@
+pub mod Leading
+pub mod Digits
+pub mod Counted
+pub mod Calling
+pub mod Shifts
+pub mod Room
+pub mod Examples
