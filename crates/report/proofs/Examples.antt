@@ -6,7 +6,8 @@ use Rattle.meaning.specs.Kinds.{kindOf, numberOf, known, arity, testOf, testAll
 use Rattle.meaning.specs.Tree.{fold, depth, size}
 use Rattle.meaning.specs.Program.{sizesAllowed, entriesFrom, entries, preorder, knownEntry, allowedEntry, arityOf, make, place, trees, treeOf, programRefusal}
 use Rattle.meaning.specs.Table.{nextOf, block, tableOf, compiled}
-use Rattle.report.specs.Decimal.{digits, decimal}
+use Rattle.text.specs.Decimal.{digits, decimal}
+use Rattle.text.specs.Writing.{textsFrom}
 use Rattle.report.specs.Listing.{line, rowLines, tableText, listing}
 
 file10 : List ℕ
@@ -22,10 +23,10 @@ text10 =
     ∷ []
 
 station10 : listing file10 ≡ text10
-unfolding file10 text10 kindOf numberOf known arity testOf testAllowed conditionAllowed goalAllowed startAllowed countAllowed emptyAllowed operandAllowed fold depth size sizesAllowed entriesFrom entries preorder knownEntry allowedEntry arityOf make place trees treeOf programRefusal nextOf block tableOf compiled digits decimal line rowLines tableText listing
+unfolding file10 text10 kindOf numberOf known arity testOf testAllowed conditionAllowed goalAllowed startAllowed countAllowed emptyAllowed operandAllowed fold depth size sizesAllowed entriesFrom entries preorder knownEntry allowedEntry arityOf make place trees treeOf programRefusal nextOf block tableOf compiled digits decimal line textsFrom rowLines tableText listing
 station10 = refl
 
 -- an empty file gets "1"
 refused : listing [] ≡ 49 ∷ 10 ∷ []
-unfolding programRefusal sizesAllowed entriesFrom entries trees treeOf compiled digits decimal line rowLines tableText listing
+unfolding programRefusal sizesAllowed entriesFrom entries trees treeOf compiled digits decimal line textsFrom rowLines tableText listing
 refused = refl

@@ -1,5 +1,3 @@
-pub mod Digits
-pub mod Texts
 pub mod Lined
 pub mod Listed
 pub mod Inputs

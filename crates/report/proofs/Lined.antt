@@ -1,9 +1,8 @@
 -- Laws behind the lines that the code writes, number by number and row by row.
-use Prim.Native.Nat.{ℕ, zero, suc, _+_, _-_, _*_, _^_, _≤_, _<_}
-use native.Mathlib.Nat.{sub-zero}
+use Prim.Native.Nat.{ℕ, suc, _+_, _-_, _*_, _^_, _≤_, _<_}
 use native.Mathlib.Numerals.{add-one}
 use native.Mathlib.Omega.{arith}
-use mathlib.Core.Path.{_≡_, refl, sym, ap}
+use mathlib.Core.Path.{_≡_, sym, ap}
 use mathlib.Core.Bool.{Bool}
 use mathlib.Core.List.{List, [], _∷_, _++_, append-assoc}
 use lib.Dec.{ltb}
@@ -15,11 +14,11 @@ use Rattle.meaning.specs.declared.Entry.{Entry}
 use Rattle.meaning.specs.declared.Form.the-variants.{Table}
 use Rattle.meaning.specs.Program.{parts, entryAt, operandBytes}
 use Rattle.meaning.specs.Table.{endAt, parentAt, nextAt}
-use Rattle.report.specs.Decimal.{maxDigits, decimal}
-use Rattle.report.specs.Writing.{Written}
-use Rattle.report.specs.Listing.{separator, line, sizeNumbers, rowNumbers, rowLines, tableText}
-use Rattle.report.proofs.Digits.{decimal-few}
-use Rattle.report.proofs.Texts.{Writing, written-byte, written-append, turn-room, turn-step, turn-end}
+use Rattle.text.specs.Decimal.{maxDigits, decimal}
+use Rattle.text.specs.Writing.{Written}
+use Rattle.report.specs.Listing.{separator, line, sizeNumbers, rowNumbers, rowLine, rowLines, tableText}
+use Rattle.text.proofs.Digits.{decimal-few}
+use Rattle.text.proofs.Texts.{Writing, written-byte, written-append, turn-room, turn-step, turn-end, texts-first, texts-room, texts-step, texts-end, texts-fit}
 
 -- A number with the separator after it
 pub item-written : (l m o : List ℕ) (n c i j : ℕ) (follows : Bool) → Written (decimal n) l i m j → c ≡ separator follows → o ≡ set m j c → Written (decimal n ++ (separator follows ∷ [])) l i o (j + 1)
@@ -79,41 +78,30 @@ pub row-read : (t : List ℕ) (p e q n : ℕ) (a : Entry) → a ≡ entryAt Tabl
 row-read t p e q n a a-is e-is q-is n-is = rw (a-is, e-is, q-is, n-is)
 
 -- The lines of rows, row by row
-abbrev rowLine : List ℕ → ℕ → List ℕ
-rowLine t p = line (rowNumbers t p)
-
-abbrev rowsFrom : List ℕ → ℕ → ℕ → List ℕ
-rowsFrom t e p = rowLines t p (e - p)
-
-rows-more : (t : List ℕ) (e p : ℕ) → p < e → rowsFrom t e p ≡ rowLine t p ++ rowsFrom t e (p + 1)
-unfolding rowLines
-rows-more t e p h = let k : e - p ≡ suc (e - (p + 1)) = omega arith in rw (k, add-one p)
-
-rows-none : (t : List ℕ) (e p : ℕ) → e ≤ p → rowsFrom t e p ≡ []
-unfolding rowLines
-rows-none t e p h = let k : e - p ≡ 0 = omega arith in rw k
-
 module _ (t l m : List ℕ) (i j p e : ℕ) where
   abbrev RowsLeft : ℕ → List ℕ → ℕ → Type 0
   RowsLeft q o r = Writing (rowLines t 0 (parts t)) l i (rowLines t q (e - q)) o r
 
   pub rows-first : e ≡ parts t → RowsLeft 0 l i
-  rows-first h = rw (sub-zero, h) (record { completes = refl; ends = refl })
+  unfolding rowLines
+  rows-first h = rw (← h) (texts-first (rowLine t) l i e)
 
   pub rows-room : p < e → RowsLeft p m j → i + length (rowLines t 0 (parts t)) < 2 ^ 64 → j + length (line (rowNumbers t p)) < 2 ^ 64
-  rows-room h w r = turn-room e (rowLine t) (rowsFrom t e) (rows-more t e) (rows-none t e) (rowLines t 0 (parts t)) l m i j p w (2 ^ 64) h r
+  unfolding rowLines
+  rows-room h w r = texts-room (rowLine t) (rowLines t 0 (parts t)) l m i j p e h w r
 
   pub rows-step : (o : List ℕ) (r : ℕ) → p < e → RowsLeft p m j → Written (line (rowNumbers t p)) m j o r → RowsLeft (p + 1) o r
-  rows-step o r h w x = turn-step e (rowLine t) (rowsFrom t e) (rows-more t e) (rows-none t e) (rowLines t 0 (parts t)) l m i j p w o r h x
+  unfolding rowLines
+  rows-step o r h w x = texts-step (rowLine t) (rowLines t 0 (parts t)) l m i j p e o r h w x
 
   pub rows-end : e ≤ p → RowsLeft p m j → Written (rowLines t 0 (parts t)) l i m j
-  rows-end h w = turn-end e (rowLine t) (rowsFrom t e) (rows-more t e) (rows-none t e) (rowLines t 0 (parts t)) l m i j p w h
+  unfolding rowLines
+  rows-end h w = texts-end (rowLine t) (rowLines t 0 (parts t)) l m i j p e h w
 
 -- rows take at most nine numbers each
 pub rows-fit : (t : List ℕ) (p n : ℕ) → length (rowLines t p n) ≤ 9 * (maxDigits + 1) * n
 unfolding rowLines
-rows-fit t p zero = omega arith
-rows-fit t p (suc n) = omega (arith, length-append (line (rowNumbers t p)) (rowLines t (suc p) n), line-fits (rowNumbers t p), rows-fit t (suc p) n)
+rows-fit t p n = texts-fit (rowLine t) (9 * (maxDigits + 1)) p n (λ q. omega (arith, line-fits (rowNumbers t q)))
 
 -- The line of the sizes, and then the rows
 pub table-room : (t ns : List ℕ) (j : ℕ) → ns ≡ sizeNumbers t → j ≡ 0 + length (line ns) → parts t < 256 → j + length (rowLines t 0 (parts t)) < 2 ^ 64

@@ -21,7 +21,7 @@ use Rattle.meaning.specs.Table.{compiled, readRefusal, readInto}
 use Rattle.meaning.proofs.Answers.{refusal-counts}
 use Rattle.meaning.proofs.Files.{Holds, accepted}
 use Rattle.meaning.proofs.Tables.{compiled-is, table-holds}
-use Rattle.report.specs.Writing.{Written}
+use Rattle.text.specs.Writing.{Written, textsFrom}
 use Rattle.report.specs.Listing.{line, sizeNumbers, rowLines, tableText, listing, maxListing}
 use Rattle.report.proofs.Lined.{line-fits, rows-fit}
 
@@ -51,7 +51,7 @@ stored-reads n xs h i =
 -- two lists that read alike have the same text
 module _ (s t : List ℕ) (h : (i : ℕ) → getD s i 0 ≡ getD t i 0) where
   rows-alike : (p n : ℕ) → rowLines s p n ≡ rowLines t p n
-  unfolding rowLines
+  unfolding rowLines textsFrom
   rows-alike p zero = refl
   rows-alike p (suc n) = ap₂ (λ (a b : List ℕ). line a ++ b) (simp h) (rows-alike (suc p) n)
 

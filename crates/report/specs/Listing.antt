@@ -1,5 +1,5 @@
 -- The listing of a program file.
-use Prim.Native.Nat.{ℕ, zero, suc, _+_, _*_}
+use Prim.Native.Nat.{ℕ, _+_, _*_}
 use mathlib.Core.Bool.{Bool, cond}
 use mathlib.Core.List.{List, [], _∷_, _++_}
 use lib.Dec.{eqb}
@@ -8,7 +8,8 @@ use Rattle.meaning.specs.declared.Form.the-variants.{File, Table}
 use Rattle.meaning.specs.Sizes.{maxParts}
 use Rattle.meaning.specs.Program.{parts, variables, clocks, entryAt, operandBytes, programRefusal}
 use Rattle.meaning.specs.Table.{endAt, parentAt, nextAt, compiled}
-use Rattle.report.specs.Decimal.{maxDigits, decimal}
+use Rattle.text.specs.Decimal.{maxDigits, decimal}
+use Rattle.text.specs.Writing.{textsFrom}
 
 -- A line: numbers in decimal, after each a space where another follows, and a line feed where none does
 abbrev pub separator : Bool → ℕ
@@ -26,10 +27,12 @@ sizeNumbers t = parts t ∷ variables t ∷ clocks t ∷ []
 abbrev pub rowNumbers : List ℕ → ℕ → List ℕ
 rowNumbers t p = p ∷ entryAt Table t p .kind ∷ endAt t p ∷ parentAt t p ∷ nextAt t p ∷ operandBytes (entryAt Table t p .operand)
 
+abbrev pub rowLine : List ℕ → ℕ → List ℕ
+rowLine t p = line (rowNumbers t p)
+
 -- the lines of n parts, from part p on
 unfoldable pub rowLines : List ℕ → ℕ → ℕ → List ℕ
-rowLines t p zero = []
-rowLines t p (suc n) = line (rowNumbers t p) ++ rowLines t (suc p) n
+rowLines t p n = textsFrom (rowLine t) p n
 
 unfoldable pub tableText : List ℕ → List ℕ
 tableText t = line (sizeNumbers t) ++ rowLines t 0 (parts t)

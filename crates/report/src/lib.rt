@@ -1,5 +1,4 @@
 // Text that the programs print.
-pub mod decimal;
 pub mod lines;
 pub mod rows;
 
@@ -16,11 +15,11 @@ ghost use Prim.Native.Nat.{_≤_};
 ghost use lib.ListN.{length};
 ghost use lib.Seq.{sets};
 ghost use Rattle.meaning.specs.Answers.{refusalNumber};
-ghost use Rattle.report.specs.Writing.{Written};
+ghost use Rattle.text.specs.Writing.{Written};
 ghost use Rattle.report.specs.Listing.{line, listing, maxListing};
 
 // Room for the longest listing.
-pub const MAX_LISTING: usize = 10818;
+pub const MAX_LISTING: usize = 37863;
 
 // Writes the listing of a program file, and gives its length.
 pub fn list(file: &[u8], out: &mut [u8]) -> usize
@@ -40,6 +39,6 @@ pub fn list(file: &[u8], out: &mut [u8]) -> usize
 fn write_refusal(r: Refusal, out: &mut [u8]) -> usize
     ensures { λ n. ⌜ Written (line (refusalNumber r ∷ [])) (now (out .entry)) 0 (now (out .exit)) n ⌝ }
 {
-    let numbers = [refusal_number(r) as u16];
+    let numbers = [refusal_number(r) as u64];
     write_line(&numbers, out, 0)
 }

@@ -1,12 +1,12 @@
 // Lines of numbers.
-use crate::decimal::write_number;
 use base::put;
+use text::decimal::write_number;
 ghost use mathlib.Core.Path.{_≡_};
 ghost use mathlib.Core.List.{[], _∷_, _++_};
 ghost use Prim.Native.Nat.{_+_, _<_, _^_};
 ghost use lib.ListN.{length};
-ghost use Rattle.report.specs.Decimal.{decimal};
-ghost use Rattle.report.specs.Writing.{Written};
+ghost use Rattle.text.specs.Decimal.{decimal};
+ghost use Rattle.text.specs.Writing.{Written};
 ghost use Rattle.report.specs.Listing.{separator, line};
 
 // What stands after a number: a space where another follows, else a line feed.
@@ -17,7 +17,7 @@ fn separator(follows: bool) -> u8
 }
 
 // Writes a number of a line and the separator after it.
-fn write_item(n: u16, follows: bool, out: &mut [u8], i: usize) -> usize
+fn write_item(n: u64, follows: bool, out: &mut [u8], i: usize) -> usize
     requires { ⌜ i + length (decimal n) + 1 < 2 ^ 64 ⌝ }
     ensures { λ r. ⌜ Written (decimal n ++ (separator follows ∷ [])) (now (out .entry)) i (now (out .exit)) r ⌝ }
 {
@@ -27,7 +27,7 @@ fn write_item(n: u16, follows: bool, out: &mut [u8], i: usize) -> usize
 }
 
 // Writes a line from place i on, and gives the place after it.
-pub(crate) fn write_line(numbers: &[u16], out: &mut [u8], i: usize) -> usize
+pub(crate) fn write_line(numbers: &[u64], out: &mut [u8], i: usize) -> usize
     requires { ⌜ i + length (line (now numbers)) < 2 ^ 64 ⌝ }
     ensures { λ r. ⌜ Written (line (now (numbers .entry))) (now (out .entry)) i (now (out .exit)) r ⌝ }
 {

@@ -15,7 +15,7 @@ ghost use Prim.Native.Nat.{_+_, _*_, _<_, _^_};
 ghost use lib.ListN.{length};
 ghost use Rattle.meaning.specs.Sizes.{headerLength, rowLength, numberAt};
 ghost use Rattle.meaning.specs.Program.{parts};
-ghost use Rattle.report.specs.Writing.{Written};
+ghost use Rattle.text.specs.Writing.{Written};
 ghost use Rattle.report.specs.Listing.{line, sizeNumbers, rowNumbers, rowLines, tableText};
 
 // The number at byte j of row p.
@@ -27,18 +27,18 @@ fn number_in(table: &[u8], p: Number, j: usize) -> Number
 }
 
 // What the first line has.
-fn size_numbers(table: &[u8]) -> [u16; 3]
+fn size_numbers(table: &[u8]) -> [u64; 3]
     ensures { λ r. ⌜ r ≡ sizeNumbers (now (table .entry)) ⌝ }
 {
     [
-        parts(table) as u16,
-        variables(table) as u16,
-        clocks(table) as u16,
+        parts(table) as u64,
+        variables(table) as u64,
+        clocks(table) as u64,
     ]
 }
 
 // What the line of row p has. The end, the parent and the next stand after the kind byte.
-fn row_numbers(table: &[u8], p: Number) -> [u16; 9]
+fn row_numbers(table: &[u8], p: Number) -> [u64; 9]
     ensures { λ r. ⌜ r ≡ rowNumbers (now (table .entry)) p ⌝ }
 {
     let part = entry_at(table, Form::Table, p);
@@ -47,15 +47,15 @@ fn row_numbers(table: &[u8], p: Number) -> [u16; 9]
     let parent = number_in(table, p, 2);
     let next = number_in(table, p, 3);
     [
-        p as u16,
-        part.kind as u16,
-        end as u16,
-        parent as u16,
-        next as u16,
-        o.b0 as u16,
-        o.b1 as u16,
-        o.b2 as u16,
-        o.b3 as u16,
+        p as u64,
+        part.kind as u64,
+        end as u64,
+        parent as u64,
+        next as u64,
+        o.b0 as u64,
+        o.b1 as u64,
+        o.b2 as u64,
+        o.b3 as u64,
     ]
 }
 

@@ -4,7 +4,7 @@ use native.Mathlib.Omega.{arith}
 use mathlib.Core.Path.{_≡_, refl}
 use lib.ListN.{length, drop}
 use Rattle.report.specs.Listing.{line}
-use Rattle.report.proofs.Texts.{Writing}
+use Rattle.text.proofs.Texts.{Writing}
 use Rattle.report.proofs.Lined.{line-room, line-step, line-end}
 use Rattle.report.proofs.lines.write_line.Statement.{statement}
 use Rattle.report.proofs.lines.write_line.Tie as tie

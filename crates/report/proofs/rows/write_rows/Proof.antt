@@ -6,7 +6,7 @@ use borrow.Author.Needs.{needs}
 use lib.ListN.{length}
 use Rattle.meaning.specs.Program.{parts}
 use Rattle.report.specs.Listing.{rowLines}
-use Rattle.report.proofs.Texts.{Writing}
+use Rattle.text.proofs.Texts.{Writing}
 use Rattle.report.proofs.Lined.{rows-first, rows-room, rows-step, rows-end}
 use Rattle.report.proofs.rows.write_rows.Statement.{statement}
 use Rattle.report.proofs.rows.write_rows.Tie as tie

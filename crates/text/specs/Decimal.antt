@@ -13,9 +13,9 @@ unfoldable pub digits : ℕ → ℕ → List ℕ
 digits zero n = []
 digits (suc k) n = cond (ltb n 10) (glyph n ∷ []) (digits k (n / 10) ++ (glyph (n % 10) ∷ []))
 
--- how many digits a number of two bytes takes at most
+-- how many digits a number of eight bytes takes at most
 abbrev pub maxDigits : ℕ
-maxDigits = 5
+maxDigits = 20
 
 unfoldable pub decimal : ℕ → List ℕ
 decimal n = digits maxDigits n

@@ -3,11 +3,11 @@ use base::put;
 ghost use mathlib.Core.Path.{_≡_};
 ghost use Prim.Native.Nat.{_+_, _<_, _^_};
 ghost use lib.ListN.{length};
-ghost use Rattle.report.specs.Decimal.{glyph, decimal};
-ghost use Rattle.report.specs.Writing.{Written};
+ghost use Rattle.text.specs.Decimal.{glyph, decimal};
+ghost use Rattle.text.specs.Writing.{Written};
 
 // The byte of a digit.
-fn glyph(d: u16) -> u8
+fn glyph(d: u64) -> u8
     requires { ⌜ d < 10 ⌝ }
     ensures { λ r. ⌜ r ≡ glyph d ⌝ }
 {
@@ -16,7 +16,7 @@ fn glyph(d: u16) -> u8
 
 // Writes n from place i on, and gives the place after it. The digits before the last are those of
 // n / 10, so they come first, and n falls at each call.
-pub(crate) fn write_number(n: u16, out: &mut [u8], i: usize) -> usize
+pub fn write_number(n: u64, out: &mut [u8], i: usize) -> usize
     requires { ⌜ i + length (decimal n) < 2 ^ 64 ⌝ }
     ensures { λ r. ⌜ Written (decimal n) (now (out .entry)) i (now (out .exit)) r ⌝ }
 {

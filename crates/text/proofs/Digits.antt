@@ -1,4 +1,4 @@
--- Laws of numbers in decimal, which say together that the digits are the number's, and that five are enough.
+-- Laws of numbers in decimal, which say together that the digits are the number's, and that twenty are enough for eight bytes.
 use Prim.Native.Nat.{ℕ, zero, suc, _+_, _-_, _*_, _/_, _%_, _^_, _≤_, _<_}
 use native.Mathlib.Nat.{pow-suc}
 use native.Mathlib.Omega.{arith}
@@ -10,7 +10,7 @@ use lib.ListN.{length, getD, length-append}
 use borrow.Author.Tests.{lt-ltb, le-ltb, ltb-true, ltb-false, le-leb}
 use Rattle.base.specs.Lists.{all}
 use Rattle.base.proofs.Lists.{all-append}
-use Rattle.report.specs.Decimal.{glyph, digits, maxDigits, decimal}
+use Rattle.text.specs.Decimal.{glyph, digits, maxDigits, decimal}
 
 -- a byte that is a digit
 abbrev pub isDigit : ℕ → Bool
@@ -89,7 +89,7 @@ decimal-one n h = rw (lt-ltb n 10 h)
 
 pub decimal-more : (n : ℕ) → 10 ≤ n → n < 10 ^ maxDigits → decimal n ≡ decimal (n / 10) ++ (glyph (n % 10) ∷ [])
 unfolding decimal digits
-decimal-more n h l = rw (le-ltb n 10 h, digits-same 3 4 (n / 10) (omega arith) (omega arith))
+decimal-more n h l = rw (le-ltb n 10 h, digits-same 18 19 (n / 10) (omega arith) (omega arith))
 
 pub decimal-few : (n : ℕ) → length (decimal n) ≤ maxDigits
 unfolding decimal

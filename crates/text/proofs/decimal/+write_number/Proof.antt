@@ -4,14 +4,14 @@ use native.Mathlib.Omega.{arith}
 use borrow.Author.Needs.{needs}
 use borrow.Fn.Kinds.{In}
 use borrow.Fn.PlainCycle.{Measures, is, falls, and}
-use Rattle.report.proofs.Texts.{number-one, number-more, length-one, length-more}
-use Rattle.report.proofs.decimal.write_number.Reads as write-number
-use Rattle.report.proofs.decimal.write_number.Kinds as write-number-kinds
-use Rattle.report.proofs.decimal.+write_number.Lts-write_number as write-number-lts
+use Rattle.text.proofs.Texts.{number-one, number-more, length-one, length-more}
+use Rattle.text.proofs.decimal.write_number.Reads as write-number
+use Rattle.text.proofs.decimal.write_number.Kinds as write-number-kinds
+use Rattle.text.proofs.decimal.+write_number.Lts-write_number as write-number-lts
 use Rattle.base.proofs.put.Reads as put-reads
-use Rattle.report.proofs.decimal.glyph.Reads as glyph-reads
-use Rattle.report.proofs.decimal.+write_number.{statement}
-use Rattle.report.proofs.decimal.+write_number.Tie.{close}
+use Rattle.text.proofs.decimal.glyph.Reads as glyph-reads
+use Rattle.text.proofs.decimal.+write_number.{statement}
+use Rattle.text.proofs.decimal.+write_number.Tie.{close}
 
 abbrev μ-write-number : Measures 1 write-number-kinds.ps ℕ
 μ-write-number κs a = a .0

@@ -1,0 +1,4 @@
+pub mod Digits
+pub mod Texts
+pub mod Pairs
+pub mod Labels

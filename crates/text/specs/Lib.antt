@@ -1,0 +1,4 @@
+pub mod Decimal
+pub mod Hexadecimal
+pub mod Words
+pub mod Writing

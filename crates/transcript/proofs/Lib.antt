@@ -1,0 +1,5 @@
+pub mod Answering
+pub mod Marked
+pub mod Summing
+pub mod Lengths
+pub mod Examples
