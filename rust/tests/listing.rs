@@ -1,48 +1,17 @@
 //! The listing program, run on the paper's examples and on random files.
 
-use std::io::{ErrorKind, Write};
-use std::path::Path;
-use std::process::{Child, Command, Stdio};
 use std::thread::sleep;
 use std::time::Duration;
 
 use gurvoke::cases::{any_program, damaged_file, hex, program, random_file, Rng, Shape};
 use gurvoke::model;
+use gurvoke::programs::{feed, Program, NO_ARGUMENTS};
 use gurvoke::stations::{repeats_above_goal, STATION_10, STATION_10_LISTING};
 
-const LISTING: &str = concat!(env!("CARGO_MANIFEST_DIR"), "/../target/bin/listing");
-
-fn start_listing() -> Child {
-    assert!(
-        Path::new(LISTING).is_file(),
-        "{LISTING} is missing: run `rt check listing` at the top of the repository"
-    );
-    Command::new(LISTING)
-        .stdin(Stdio::piped())
-        .stdout(Stdio::piped())
-        .spawn()
-        .unwrap_or_else(|error| panic!("{LISTING} does not start: {error}"))
-}
-
-/// Writes to the program, which need not read more than it wants.
-fn feed(child: &mut Child, bytes: &[u8]) {
-    let input = child.stdin.as_mut().expect("the input is a pipe");
-    match input.write_all(bytes) {
-        Err(error) if error.kind() != ErrorKind::BrokenPipe => panic!("writing: {error}"),
-        _ => {}
-    }
-}
-
-/// Ends the program's input and gives all that it writes.
-fn finish(child: Child) -> String {
-    let output = child.wait_with_output().expect("the program ends");
-    String::from_utf8(output.stdout).expect("the listing is text")
-}
+const LISTING: Program = Program::named("listing");
 
 fn listing(file: &[u8]) -> String {
-    let mut child = start_listing();
-    feed(&mut child, file);
-    finish(child)
+    LISTING.run(NO_ARGUMENTS, file)
 }
 
 /// Expects this text from the program and from the model.
@@ -85,12 +54,13 @@ fn station_10() {
 /// The input may come in pieces.
 #[test]
 fn slow_input() {
-    let mut child = start_listing();
-    for byte in STATION_10 {
-        feed(&mut child, &[byte]);
-        sleep(Duration::from_millis(5));
-    }
-    assert_eq!(finish(child), STATION_10_LISTING);
+    let text = LISTING.run_fed(NO_ARGUMENTS, |child| {
+        for byte in STATION_10 {
+            feed(child, &[byte]);
+            sleep(Duration::from_millis(5));
+        }
+    });
+    assert_eq!(text, STATION_10_LISTING);
 }
 
 /// A SEQ of 199 WAITs, with numbers that are as long as they can be.

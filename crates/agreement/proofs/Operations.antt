@@ -33,7 +33,7 @@ offer-below : (t r : List ℕ) (time room : ℕ) → leb answered (offerRefusal 
 unfolding offerRefusal
 offer-below t r time room = not-true (leb answered (offerRefusal t r time room)) (failing-passes (λ n. not (leb answered n)) (offer-list t r time room) refl refl)
 
-settle-below : (t r est : List ℕ) → leb answered (settleRefusal t r est) ≡ false
+pub settle-below : (t r est : List ℕ) → leb answered (settleRefusal t r est) ≡ false
 unfolding settleRefusal
 settle-below t r est = not-true (leb answered (settleRefusal t r est)) (failing-passes (λ n. not (leb answered n)) (settle-list t r est) refl refl)
 
@@ -146,7 +146,7 @@ both-none m n = go (eqb n 0) refl
 
 module _ (f : List ℕ) where
   -- a file that reading does not refuse is a program's, and there is room for its table
-  read-accepted : (room : ℕ) → readRefusal f room ≡ 0 → (programRefusal File f ≡ 0) × (lengthOf Table (parts f) ≤ room)
+  pub read-accepted : (room : ℕ) → readRefusal f room ≡ 0 → (programRefusal File f ≡ 0) × (lengthOf Table (parts f) ≤ room)
   unfolding readRefusal
   read-accepted room h =
       let x = both-none (firstFailing ((8, leb (lengthOf Table (parts f)) room) ∷ [])) (programRefusal File f) h in
@@ -162,7 +162,7 @@ module _ (f : List ℕ) where
     compiled-variables : variables (compiled File f) ≡ variables f
     compiled-variables = rw compiled-tree (table-accepted (variables f) (clocks f) tree (accepted File f a .2 .within) .2)
 
-    compiled-length : length (compiled File f) ≡ lengthOf Table (parts f)
+    pub compiled-length : length (compiled File f) ≡ lengthOf Table (parts f)
     compiled-length =
         let held = table-holds (variables f) (clocks f) tree (accepted File f a .2 .within) in
         rw compiled-tree (held .length-is ∙ ap (lengthOf Table) (held .parts-are ∙ sym (accepted File f a .2 .parts-are)))

@@ -1,0 +1,9 @@
+pub mod Words
+pub mod Counted
+pub mod Rooms
+pub mod Estimates
+pub mod Calls
+pub mod Said
+pub mod Answered
+pub mod Opens
+pub mod Finishing

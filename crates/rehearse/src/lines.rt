@@ -1,0 +1,138 @@
+// The calls on standard input, line by line.
+use crate::input::read_piece;
+use calls::pieces::line_end;
+use calls::pieces::shift;
+use libc::STDIN_FILENO;
+use libc::STDOUT_FILENO;
+use meaning::sizes::RECORD;
+use rehearsal::MAX_LINE;
+use rehearsal::answer_line;
+use rehearsal::counting::one_more;
+use rehearsal::summarise;
+use transcript::MAX_ANSWER;
+use transcript::MAX_SUMMARY;
+ghost use mathlib.Core.Path.{_≡_};
+ghost use Prim.Native.Nat.{_≤_};
+ghost use lib.ListN.{length};
+
+// Where a rehearsal stands: the bytes of the input buffer from place `from` on and before place
+// `held` are still to be answered, `number` lines have been, and `cycles` is the count of cycles.
+// Once it goes on no more, `is_complete` says whether no line ended it.
+struct Stand {
+    from: usize,
+    held: usize,
+    number: u64,
+    cycles: u64,
+    goes_on: bool,
+    is_complete: bool,
+}
+
+// Writes the first n bytes of a text to standard output, or says why not.
+pub(crate) fn print(text: &[u8], n: usize) -> bool
+    requires { ⌜ n ≤ length (now text) ⌝ }
+{
+    let is_written = io::write_all(STDOUT_FILENO, &text[..n]);
+    if !is_written {
+        os::fail(b"standard output");
+    }
+    is_written
+}
+
+// Answers a line. The input goes on at place `from`.
+fn answer(t: &[u8], r: &mut [u8], with_parts: bool, line: &[u8], s: Stand, from: usize) -> Stand
+    requires { ⌜ from ≤ s .held ⌝ }
+    ensures { λ n. ⌜ (n .from ≤ n .held) × (n .held ≤ s .held) ⌝ }
+{
+    let mut text = [0u8; MAX_ANSWER];
+    let number = one_more(s.number);
+    let turn = answer_line(t, r, s.cycles, number, with_parts, line, &mut text);
+    let is_printed = print(&text, turn.length);
+    Stand {
+        from: from,
+        held: s.held,
+        number: number,
+        cycles: turn.cycles,
+        goes_on: is_printed & !turn.ends,
+        is_complete: false,
+    }
+}
+
+fn ended(s: Stand) -> Stand
+    ensures { λ e. ⌜ (e .from ≡ 0) × (e .held ≡ 0) ⌝ }
+{
+    Stand {
+        from: 0,
+        held: 0,
+        number: s.number,
+        cycles: s.cycles,
+        goes_on: false,
+        is_complete: s.goes_on,
+    }
+}
+
+// Reads on, after the first n bytes of the buffer. Where the input ends, they are its last line.
+fn read_on(t: &[u8], r: &mut [u8], with_parts: bool, input: &mut [u8], s: Stand, n: usize) -> Stand
+    requires { ⌜ n ≤ length (now input) ⌝ }
+    ensures { λ e. ⌜ (e .from ≤ e .held) × (e .held ≤ length (now (input .entry))) ⌝ }
+{
+    let piece = read_piece(STDIN_FILENO, b"standard input", input, n);
+    let k = piece.held;
+    if !piece.is_read | (n < k) {
+        return Stand {
+            from: 0,
+            held: k,
+            number: s.number,
+            cycles: s.cycles,
+            goes_on: piece.is_read,
+            is_complete: false,
+        };
+    }
+    ended(answer(t, r, with_parts, &input[..n], s, 0))
+}
+
+// Answers the next line, or reads on where its end is not in the buffer. A buffer without room for
+// more holds a line that is too long.
+fn turn(t: &[u8], r: &mut [u8], with_parts: bool, input: &mut [u8], s: Stand) -> Stand
+    requires { ⌜ (s .from ≤ s .held) × (s .held ≤ length (now input)) ⌝ }
+    ensures { λ e. ⌜ (e .from ≤ e .held) × (e .held ≤ length (now (input .entry))) ⌝ }
+{
+    let from = s.from;
+    let held = s.held;
+    let end = line_end(input, from, held);
+    if end < held {
+        return answer(t, r, with_parts, &input[from..end], s, end + 1);
+    }
+    if held - from == input.len() {
+        return answer(t, r, with_parts, &input[from..held], s, held);
+    }
+    shift(input, from, held);
+    read_on(t, r, with_parts, input, s, held - from)
+}
+
+// Answers every line of standard input, and then says what the run has come to.
+pub(crate) fn rehearse(t: &[u8], with_parts: bool) {
+    let mut r = [0u8; RECORD];
+    let mut input = [0u8; MAX_LINE + 1];
+    let mut s = Stand {
+        from: 0,
+        held: 0,
+        number: 0,
+        cycles: 0,
+        goes_on: true,
+        is_complete: false,
+    };
+    let mut turns = u64::MAX;
+    while turns > 0 && s.goes_on {
+        s = turn(t, &mut r, with_parts, &mut input, s);
+        turns -= 1;
+    }
+    if s.is_complete {
+        print_summary(t, &r, s.cycles);
+    }
+}
+
+fn print_summary(t: &[u8], r: &[u8], cycles: u64) {
+    let mut text = [0u8; MAX_SUMMARY];
+    let n = summarise(t, r, cycles, &mut text);
+    print(&text, n);
+}

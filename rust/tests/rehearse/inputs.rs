@@ -1,0 +1,192 @@
+//! Long lists of calls, long lines, and lists that come in pieces.
+
+use std::thread::sleep;
+use std::time::Duration;
+
+use gurvoke::builder::{file, goal};
+use gurvoke::cases::Rng;
+use gurvoke::programs::{feed, TemporaryFile};
+use gurvoke::rehearsal::MAX_LINE;
+use gurvoke::runs;
+use gurvoke::scripts::script;
+use gurvoke::unfolding::Program;
+
+use crate::harness::{assert_same, Rehearsal, REHEARSE};
+
+/// Station 1 with these calls.
+fn station_1(calls: Vec<u8>) -> Rehearsal {
+    Rehearsal {
+        file: file(1, 1, &goal(0, 1)),
+        calls,
+        with_parts: false,
+    }
+}
+
+/// A beginning, and 100,000 cycles of which the last one finishes.
+fn long_list() -> Vec<u8> {
+    let mut calls = String::from("begin 00\n");
+    for time in 1..100_000 {
+        calls += &format!("offer {time}\nsettle 00\n");
+    }
+    calls += "offer 100000\nsettle 01\n";
+    calls.into_bytes()
+}
+
+/// 200,000 calls in one rehearsal.
+#[test]
+fn long_input() {
+    let mut text = String::from("begun\n");
+    text += &"goals 01 named none\nrunning\n".repeat(99_999);
+    text += "goals 01 named none\nfinished\n";
+    let summary = "\
+phase 2
+last time 100000
+estimate 01
+clock 0 -
+finishing cycle 100000
+";
+    let rehearsal = station_1(long_list());
+    let whole = text.clone() + summary;
+    rehearsal.assert_model(&whole);
+    rehearsal.assert_program(&whole);
+
+    let mut calls = long_list();
+    calls.extend(b"settled 01\noffer 100000\n");
+    let rehearsal = station_1(calls);
+    let cut = text + "line 200002: not a call\n";
+    rehearsal.assert_model(&cut);
+    rehearsal.assert_program(&cut);
+}
+
+/// Lines that are passed over count too.
+#[test]
+fn many_lines_with_no_call() {
+    let mut calls = b"\n#\n \n".repeat(100_000);
+    calls.extend(b"begin 00\nx\n");
+    let rehearsal = station_1(calls);
+    let text = "begun\nline 300002: not a call\n";
+    rehearsal.assert_model(text);
+    rehearsal.assert_program(text);
+}
+
+/// Lists that come so many bytes at a time.
+#[test]
+fn pieces() {
+    let mut rng = Rng::new(610);
+    for (piece, calls, pause) in [(1, 12, 1000), (7, 60, 1000), (4095, 2000, 4000)] {
+        for with_parts in [false, true] {
+            let file = runs::program(&mut rng);
+            let program = Program::read(&file).expect("a valid program");
+            let rehearsal = Rehearsal {
+                calls: script(&mut rng, &program, calls),
+                file,
+                with_parts,
+            };
+            assert!(rehearsal.calls.len() > 4 * piece);
+            assert_in_pieces(&rehearsal, piece, Duration::from_micros(pause));
+        }
+    }
+}
+
+/// A line that is no call in a list that comes byte by byte.
+#[test]
+fn pieces_of_a_line_that_is_no_call() {
+    let rehearsal = station_1(b"begin 00\n\noffer 1\nsettle 0\nsettle 00\n".to_vec());
+    let text = "begun\ngoals 01 named none\nline 4: not a call\n";
+    rehearsal.assert_model(text);
+    assert_in_pieces(&rehearsal, 1, Duration::from_millis(1));
+}
+
+/// Expects the model's text when the calls come so many bytes at a time, with pauses in which the
+/// program can take what has come.
+fn assert_in_pieces(rehearsal: &Rehearsal, piece: usize, pause: Duration) {
+    let file = TemporaryFile::holding(&rehearsal.file);
+    let text = REHEARSE.run_fed(&rehearsal.arguments(file.path()), |child| {
+        for bytes in rehearsal.calls.chunks(piece) {
+            feed(child, bytes);
+            sleep(pause);
+        }
+    });
+    assert_same("program in pieces", &text, &rehearsal.model(), rehearsal);
+}
+
+/// A line of so many bytes that has this call and nothing else.
+fn padded(call: &str, len: usize, before: usize) -> Vec<u8> {
+    let mut line = vec![b' '; len];
+    line[before..before + call.len()].copy_from_slice(call.as_bytes());
+    line
+}
+
+/// Lines of a length at and about the longest: a call in the middle of spaces, at the front and at
+/// the end, a comment, and nothing but spaces.
+fn long_lines(len: usize) -> Vec<Vec<u8>> {
+    let call = "offer 7";
+    vec![
+        padded(call, len, 0),
+        padded(call, len, len / 2),
+        padded(call, len, len - call.len()),
+        padded("", len, 0),
+        padded("#", len, 0),
+        padded("#", len, len - 1),
+        padded("x", len, len - 1),
+        zeros_before("7", len),
+        pairs(len),
+    ]
+}
+
+/// An offer with many zeros.
+fn zeros_before(number: &str, len: usize) -> Vec<u8> {
+    let zeros = "0".repeat(len - "offer ".len() - number.len());
+    format!("offer {zeros}{number}").into_bytes()
+}
+
+/// A beginning with many pairs. Where the number of digits is odd, it is no call.
+fn pairs(len: usize) -> Vec<u8> {
+    let digits = "0".repeat(len - "begin ".len());
+    format!("begin {digits}").into_bytes()
+}
+
+/// A line at the front of a list, after some others, and at its end without a line feed.
+fn around(line: &[u8]) -> [Vec<u8>; 3] {
+    let some = b"begin 00\n# some lines\n".repeat(40);
+    [
+        [line, b"\nbegin 00\n"].concat(),
+        [&some, line, b"\noffer 8\n"].concat(),
+        [&some[some.len() / 2..], line].concat(),
+    ]
+}
+
+#[test]
+fn longest_lines() {
+    let mut ended = 0;
+    let mut went_on = 0;
+    for len in [MAX_LINE - 1, MAX_LINE, MAX_LINE + 1, MAX_LINE + 2] {
+        for line in long_lines(len) {
+            for calls in around(&line) {
+                let text = station_1(calls).assert_as_model();
+                let cut = text.ends_with("not a call\n");
+                assert!(cut || len <= MAX_LINE, "a line of {len} bytes");
+                ended += usize::from(cut);
+                went_on += usize::from(!cut);
+            }
+        }
+    }
+    assert!(ended >= 54 && went_on >= 36, "{ended}, {went_on}");
+}
+
+/// Lines that are much longer than the longest.
+#[test]
+fn much_longer_lines() {
+    for len in [2 * MAX_LINE, 10 * MAX_LINE + 3, 1_000_000] {
+        for line in long_lines(len) {
+            let front = station_1([&line[..], b"\nbegin 00\n"].concat());
+            let text = "line 1: not a call\n";
+            front.assert_model(text);
+            front.assert_program(text);
+            let last = station_1([b"\nbegin 00\n", &line[..]].concat());
+            let text = "begun\nline 3: not a call\n";
+            last.assert_model(text);
+            last.assert_program(text);
+        }
+    }
+}

@@ -1,0 +1,8 @@
+//! The rehearsing program: against the paper's stations, texts worked out by hand, and the model.
+
+mod arguments;
+mod harness;
+mod inputs;
+mod lines;
+mod random;
+mod stations;
