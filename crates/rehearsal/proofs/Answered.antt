@@ -2,10 +2,10 @@
 use Prim.Native.Nat.{ℕ, _+_, _^_, _≤_, _<_}
 use native.Mathlib.Nat.{zero-add}
 use native.Mathlib.Omega.{arith}
-use mathlib.Core.Path.{_≡_, refl, sym, ap, _∙_}
+use mathlib.Core.Path.{_≡_, refl, sym, _∙_}
 use mathlib.Core.Bool.{Bool, true, false, not, _&&_}
-use mathlib.Core.List.{List, [], _++_}
-use lib.ListN.{length, take, length-append}
+use mathlib.Core.List.{List, _++_}
+use lib.ListN.{length, take}
 use borrow.Author.Tests.{not-true, not-false}
 use Rattle.base.specs.Lists.{bytesAt}
 use Rattle.base.proofs.Stores.{length-bytes}
@@ -18,7 +18,7 @@ use Rattle.calls.specs.Lines.{bytesOf}
 use Rattle.transcript.specs.Transcript.{partsText, maxAnswer}
 use Rattle.transcript.proofs.Lengths.{line-fits, begun-fits, settled-fits, offered-fits}
 use Rattle.rehearsal.specs.declared.Turn.{Turn}
-use Rattle.rehearsal.specs.Rehearsal.{heard, OfferTold, Told, cyclesAt, isCall, endsRun, partsUnder, Turned, WithParts, Answered, estimateLength, Hearing, Under}
+use Rattle.rehearsal.specs.Rehearsal.{OfferTold, Told, cyclesAt, isCall, endsRun, partsUnder, Turned, Answered, estimateLength, Hearing, Under}
 use Rattle.rehearsal.proofs.Estimates.{told-carried, cycles-carried}
 
 -- the parts, where they are not asked for and where they are

@@ -1,7 +1,7 @@
 -- What a line says is done: one law for each thing that a line can say.
 use Prim.Native.Nat.{ℕ, min}
-use mathlib.Core.Path.{_≡_, refl, sym, _∙_}
-use mathlib.Core.Bool.{Bool, true, false}
+use mathlib.Core.Path.{_≡_, refl}
+use mathlib.Core.Bool.{true, false}
 use mathlib.Core.List.{List, []}
 use lib.ListN.{replicate}
 use Rattle.meaning.specs.Program.{variables}

@@ -11,7 +11,6 @@ use crate::hearing::is_call;
 use crate::making::make;
 use transcript::parts::write_parts;
 use transcript::summary::write_summary;
-ghost use mathlib.Core.Path.{_≡_};
 ghost use Prim.Native.Nat.{_+_, _≤_, _<_, _^_};
 ghost use lib.ListN.{length};
 ghost use Rattle.text.specs.Writing.{Written};

@@ -14,17 +14,18 @@ use transcript::MAX_SUMMARY;
 ghost use mathlib.Core.Path.{_≡_};
 ghost use Prim.Native.Nat.{_≤_};
 ghost use lib.ListN.{length};
+ghost use Rattle.rehearse.specs.Standing.{Goes, Takes};
 
 // Where a rehearsal stands: the bytes of the input buffer from place `from` on and before place
 // `held` are still to be answered, `number` lines have been, and `cycles` is the count of cycles.
-// Once it goes on no more, `is_complete` says whether no line ended it.
+// Once it goes on no more, `complete` says whether no line ended it.
 struct Stand {
     from: usize,
     held: usize,
     number: u64,
     cycles: u64,
-    goes_on: bool,
-    is_complete: bool,
+    going: bool,
+    complete: bool,
 }
 
 // Writes the first n bytes of a text to standard output, or says why not.
@@ -39,24 +40,24 @@ pub(crate) fn print(text: &[u8], n: usize) -> bool
 }
 
 // Answers a line. The input goes on at place `from`.
-fn answer(t: &[u8], r: &mut [u8], with_parts: bool, line: &[u8], s: Stand, from: usize) -> Stand
-    requires { ⌜ from ≤ s .held ⌝ }
-    ensures { λ n. ⌜ (n .from ≤ n .held) × (n .held ≤ s .held) ⌝ }
+fn answer(t: &[u8], r: &mut [u8], asked: bool, line: &[u8], s: Stand, from: usize) -> Stand
+    ensures { λ n. ⌜ Goes (now (t .entry)) (now (r .entry)) asked (now (line .entry)) s from (now (r .exit)) n ⌝ }
 {
     let mut text = [0u8; MAX_ANSWER];
     let number = one_more(s.number);
-    let turn = answer_line(t, r, s.cycles, number, with_parts, line, &mut text);
+    let turn = answer_line(t, r, s.cycles, number, asked, line, &mut text);
     let is_printed = print(&text, turn.length);
     Stand {
         from: from,
         held: s.held,
         number: number,
         cycles: turn.cycles,
-        goes_on: is_printed & !turn.ends,
-        is_complete: false,
+        going: is_printed & !turn.ends,
+        complete: false,
     }
 }
 
+// After the last line: complete, unless that line ended the run.
 fn ended(s: Stand) -> Stand
     ensures { λ e. ⌜ (e .from ≡ 0) × (e .held ≡ 0) ⌝ }
 {
@@ -65,13 +66,13 @@ fn ended(s: Stand) -> Stand
         held: 0,
         number: s.number,
         cycles: s.cycles,
-        goes_on: false,
-        is_complete: s.goes_on,
+        going: false,
+        complete: s.going,
     }
 }
 
 // Reads on, after the first n bytes of the buffer. Where the input ends, they are its last line.
-fn read_on(t: &[u8], r: &mut [u8], with_parts: bool, input: &mut [u8], s: Stand, n: usize) -> Stand
+fn read_on(t: &[u8], r: &mut [u8], asked: bool, input: &mut [u8], s: Stand, n: usize) -> Stand
     requires { ⌜ n ≤ length (now input) ⌝ }
     ensures { λ e. ⌜ (e .from ≤ e .held) × (e .held ≤ length (now (input .entry))) ⌝ }
 {
@@ -83,34 +84,37 @@ fn read_on(t: &[u8], r: &mut [u8], with_parts: bool, input: &mut [u8], s: Stand,
             held: k,
             number: s.number,
             cycles: s.cycles,
-            goes_on: piece.is_read,
-            is_complete: false,
+            going: piece.is_read,
+            complete: false,
         };
     }
-    ended(answer(t, r, with_parts, &input[..n], s, 0))
+    ended(answer(t, r, asked, &input[..n], s, 0))
 }
 
 // Answers the next line, or reads on where its end is not in the buffer. A buffer without room for
 // more holds a line that is too long.
-fn turn(t: &[u8], r: &mut [u8], with_parts: bool, input: &mut [u8], s: Stand) -> Stand
+fn turn(t: &[u8], r: &mut [u8], asked: bool, input: &mut [u8], s: Stand) -> Stand
     requires { ⌜ (s .from ≤ s .held) × (s .held ≤ length (now input)) ⌝ }
     ensures { λ e. ⌜ (e .from ≤ e .held) × (e .held ≤ length (now (input .entry))) ⌝ }
+    ensures { λ e. ⌜ Takes (now (t .entry)) (now (r .entry)) asked (now (input .entry)) s (now (r .exit)) e ⌝ }
 {
     let from = s.from;
     let held = s.held;
     let end = line_end(input, from, held);
     if end < held {
-        return answer(t, r, with_parts, &input[from..end], s, end + 1);
+        return answer(t, r, asked, &input[from..end], s, end + 1);
     }
     if held - from == input.len() {
-        return answer(t, r, with_parts, &input[from..held], s, held);
+        return answer(t, r, asked, &input[from..held], s, held);
     }
     shift(input, from, held);
-    read_on(t, r, with_parts, input, s, held - from)
+    read_on(t, r, asked, input, s, held - from)
 }
 
-// Answers every line of standard input, and then says what the run has come to.
-pub(crate) fn rehearse(t: &[u8], with_parts: bool) {
+// Answers every line of standard input, and then says what the run has come to. A proved loop has to
+// end, and nothing says that the input does; so it counts its turns down, from a number that no run
+// uses up.
+pub(crate) fn rehearse(t: &[u8], asked: bool) {
     let mut r = [0u8; RECORD];
     let mut input = [0u8; MAX_LINE + 1];
     let mut s = Stand {
@@ -118,19 +122,20 @@ pub(crate) fn rehearse(t: &[u8], with_parts: bool) {
         held: 0,
         number: 0,
         cycles: 0,
-        goes_on: true,
-        is_complete: false,
+        going: true,
+        complete: false,
     };
     let mut turns = u64::MAX;
-    while turns > 0 && s.goes_on {
-        s = turn(t, &mut r, with_parts, &mut input, s);
+    while turns > 0 && s.going {
+        s = turn(t, &mut r, asked, &mut input, s);
         turns -= 1;
     }
-    if s.is_complete {
+    if s.complete {
         print_summary(t, &r, s.cycles);
     }
 }
 
+// Prints what the run has come to.
 fn print_summary(t: &[u8], r: &[u8], cycles: u64) {
     let mut text = [0u8; MAX_SUMMARY];
     let n = summarise(t, r, cycles, &mut text);

@@ -1,4 +1,4 @@
--- `read_on` keeps the bytes to be answered within the buffer.
+-- `read_on` keeps the bytes that are still to be answered within the buffer.
 use native.Mathlib.Omega.{arith}
 use lib.ListN.{length-take}
 use borrow.Author.Needs.{needs}
@@ -36,7 +36,7 @@ same-length-3 : tie.Need-same-length-3
 same-length-3 c = search needs
 
 returns-2 : tie.Need-returns-2
-returns-2 c = omega arith
+returns-2 c = search needs
 
 pub read-on-spec : {M : Type 1} → statement M
 read-on-spec =

@@ -1,6 +1,7 @@
--- `turn` is safe.
+-- `turn` meets its contract: where the next line ends in the buffer it is answered; else the line is too long, or more is read.
+use native.Mathlib.Omega.{arith}
+use Rattle.rehearse.proofs.Held.{line-held, line-taken, none-taken}
 use borrow.Author.Needs.{needs}
-use Rattle.rehearse.proofs.Held.{line-held}
 use Rattle.rehearse.proofs.lines.turn.Statement.{statement}
 use Rattle.rehearse.proofs.lines.turn.Tie as tie
 
@@ -29,7 +30,7 @@ same-length-2 : tie.Need-same-length-2
 same-length-2 c = search needs
 
 returns : tie.Need-returns
-returns c = search needs
+returns c = (omega arith, line-taken _ _ _ _ _ _ _ _ (c .before .before .before .before .before .before .before .line-end .ensures) (c .before .before .answer .ensures))
 
 sub-if2 : tie.Need-sub-if2
 sub-if2 c = search needs
@@ -53,7 +54,7 @@ same-length-4 : tie.Need-same-length-4
 same-length-4 c = search needs
 
 returns-2 : tie.Need-returns-2
-returns-2 c = search needs
+returns-2 c = (omega arith, none-taken _ _ _ _ _ (c .before .before .before .before .before .before .before .before .before .before .before .before .before .args .s) _ _ (c .before .before .before .before .before .before .before .before .line-end .ensures) (c .before .before .before .before .before .before .before .if1 .left))
 
 shift-requires : tie.Need-shift-requires
 shift-requires c κs = search needs
@@ -71,7 +72,7 @@ same-length-6 : tie.Need-same-length-6
 same-length-6 c = search needs
 
 returns-3 : tie.Need-returns-3
-returns-3 c = search needs
+returns-3 c = (omega arith, none-taken _ _ _ _ _ (c .before .before .before .before .before .before .before .before .before .before .before .before .before .before .before .before .before .before .args .s) _ _ (c .before .before .before .before .before .before .before .before .before .before .before .before .before .line-end .ensures) (c .before .before .before .before .before .before .before .before .before .before .before .before .if1 .left))
 
 pub turn-spec : {M : Type 1} → statement M
 turn-spec =
