@@ -6,7 +6,7 @@ use meaning::Number;
 use part::held::end_at;
 use part::held::inside_of;
 use part::held::parent_at;
-use program::walker::entry_at;
+use walk::walker::entry_at;
 ghost use mathlib.Core.Path.{_≡_};
 ghost use Prim.Native.Nat.{_+_, _<_};
 ghost use lib.Seq.{sets};

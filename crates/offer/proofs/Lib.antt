@@ -1,4 +1,2 @@
 pub mod Checking
-pub mod Raising
-pub mod Names
 pub mod Offering

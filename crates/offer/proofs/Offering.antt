@@ -28,9 +28,9 @@ use Rattle.meaning.proofs.Tables.{table-held}
 use Rattle.meaning.proofs.Entries.{length-goals}
 use Rattle.allowed.specs.Running.{runTests}
 use Rattle.offer.specs.Turns.{judging}
-use Rattle.offer.specs.Raised.{lowestContested}
+use Rattle.goals.specs.Raised.{lowestContested}
 use Rattle.offer.proofs.Checking.{judging-same}
-use Rattle.offer.proofs.Names.{lowest-names}
+use Rattle.goals.proofs.Names.{lowest-names}
 
 -- The refusals: those of every run that does not go on, then each by the test that fails after those that pass
 module _ (t r : List ℕ) (time room : ℕ) where

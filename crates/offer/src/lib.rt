@@ -1,14 +1,12 @@
 // Making an offer: the MAINTAINs checked, the goal bytes written, a contested variable named.
 pub mod checks;
-pub mod goals;
-pub mod naming;
 
 use crate::checks::check_marks;
-use crate::goals::write_goals;
-use crate::naming::lowest_contested;
 use allowed::examine;
 use base::put;
 use base::wide;
+use goals::goals::write_goals;
+use goals::naming::lowest_contested;
 use meaning::Answer;
 use meaning::OfferAnswer;
 use meaning::Refusal;
@@ -28,7 +26,7 @@ ghost use Rattle.meaning.specs.Record.{recordLength};
 ghost use Rattle.meaning.specs.Cycle.{offerRefusal, offeredRecord, offeredGoals};
 ghost use Rattle.meaning.specs.Answers.{answered, answerNumber, offerNumber};
 ghost use Rattle.meaning.specs.Operations.{Offered};
-ghost use Rattle.offer.specs.Raised.{lowestContested};
+ghost use Rattle.goals.specs.Raised.{lowestContested};
 
 // Makes an offer: refusals 9, 10, 14, 11, 12, 8.
 pub fn offer(t: &[u8], r: &mut [u8], time: u32, goals: &mut [u8]) -> OfferAnswer

@@ -1,10 +1,3 @@
-pub mod Entries
 pub mod Scans
 pub mod Counting
-pub mod Standing
-pub mod Storing
-pub mod Numbers
-pub mod Machine
-pub mod Reaching
-pub mod Linking
 pub mod Refusals

@@ -12,12 +12,12 @@ use Rattle.meaning.specs.declared.Form.{Form}
 use Rattle.meaning.specs.Sizes.{headerLength, maxDepth, lengthOf}
 use Rattle.meaning.specs.Tree.{depth}
 use Rattle.meaning.specs.Program.{parts, variables, clocks, sizesAllowed, entries, knownEntry, allowedEntry, treeOf, isTree, partTests, programRefusal}
-use Rattle.program.specs.declared.walk.Extent.the-variants.{End, TooDeep}
+use Rattle.walk.specs.declared.walk.Extent.the-variants.{End, TooDeep}
 use Rattle.program.specs.Counting.{fills}
-use Rattle.program.specs.Walk.{Stands, partAt, reached, LinksAll, Linked}
+use Rattle.walk.specs.Walk.{Stands, partAt, reached, LinksAll, Linked}
 use Rattle.program.proofs.Counting.{one-tree}
-use Rattle.program.proofs.Standing.{Alone, alone, alone-stands, alone-part}
-use Rattle.program.proofs.Reaching.{reached-shallow, reached-deep}
+use Rattle.walk.proofs.Standing.{Alone, alone, alone-stands, alone-part}
+use Rattle.walk.proofs.Reaching.{reached-shallow, reached-deep}
 
 -- what a test says, once its negation is known
 refused : (r b : Bool) → r ≡ b → not r ≡ true → b ≡ false

@@ -12,7 +12,7 @@ use Rattle.meaning.specs.declared.Entry.{Entry}
 use Rattle.meaning.specs.declared.Form.{Form}
 use Rattle.meaning.specs.Program.{parts, entryAt, entries, arityOf}
 use Rattle.program.specs.Counting.{fills}
-use Rattle.program.proofs.Entries.{entries-next, entries-past}
+use Rattle.walk.proofs.Entries.{entries-next, entries-past}
 
 module _ (form : Form) (s : List ℕ) (n p : ℕ) (n-is : n ≡ parts s) where
   -- a test of all entries from p on is that of the entry at p and that of all after it

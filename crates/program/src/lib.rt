@@ -1,15 +1,9 @@
-// Reading a program that is held in a file or in a table: the walker, the one walk over its tree, and
-// the refusals 1 to 7.
-pub mod links;
+// Whether bytes hold a program, in a file or in a table: the refusals 1 to 7.
 pub mod scan;
-pub mod walk;
-pub mod walker;
 
 use crate::scan::is_one_tree;
 use crate::scan::kinds_known;
 use crate::scan::operands_allowed;
-use crate::walk::Extent;
-use crate::walk::walk_all;
 use meaning::Answer;
 use meaning::Form;
 use meaning::Refusal;
@@ -17,11 +11,13 @@ use meaning::sizes::HEADER;
 use part::held::length_of;
 use part::held::parts;
 use part::held::sizes_allowed;
+use walk::walk::Extent;
+use walk::walk::walk_all;
 ghost use mathlib.Core.Path.{_≡_};
 ghost use Rattle.base.specs.Lists.{firstFailing};
 ghost use Rattle.meaning.specs.Program.{partTests, programRefusal};
 ghost use Rattle.meaning.specs.Answers.{answerNumber};
-ghost use Rattle.program.specs.Walk.{Linked};
+ghost use Rattle.walk.specs.Walk.{Linked};
 
 // Whether s holds a program in that form, or why not: refusals 1 to 7. Where it does, the links of its
 // parts are left in `links`.

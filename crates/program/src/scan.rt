@@ -1,6 +1,5 @@
 // The tests that go over all parts in turn: refusals 4 and 5, and the count by which the entries
 // form exactly one tree.
-use crate::walker::entry_at;
 use base::wide;
 use meaning::Form;
 use part::held::clocks;
@@ -9,6 +8,7 @@ use part::held::variables;
 use part::kinds::arity;
 use part::kinds::is_allowed;
 use part::kinds::is_known;
+use walk::walker::entry_at;
 ghost use mathlib.Core.Path.{_≡_};
 ghost use Rattle.base.specs.Lists.{all};
 ghost use Rattle.meaning.specs.Program.{variables, clocks, entries, knownEntry, allowedEntry};

@@ -9,7 +9,7 @@ use part::held::clocks;
 use part::held::number_at;
 use part::held::parts;
 use part::held::variables;
-use program::walker::entry_at;
+use walk::walker::entry_at;
 ghost use mathlib.Core.Path.{_≡_};
 ghost use Prim.Native.Nat.{_+_, _*_, _<_, _^_};
 ghost use lib.ListN.{length};

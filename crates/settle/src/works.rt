@@ -6,7 +6,7 @@ use meaning::Form;
 use meaning::Number;
 use part::held::end_at;
 use part::held::parts;
-use program::walker::entry_at;
+use walk::walker::entry_at;
 ghost use mathlib.Core.Path.{_≡_};
 ghost use mathlib.Core.Bool.{true};
 ghost use lib.ListN.{getD};

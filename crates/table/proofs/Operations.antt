@@ -25,8 +25,8 @@ use Rattle.meaning.specs.Answers.{answerNumber}
 use Rattle.meaning.proofs.Answers.{is-refused}
 use Rattle.meaning.proofs.Files.{Holds, accepted, length-entries, sizes-back}
 use Rattle.meaning.proofs.Tables.{rows-entries, length-rows, compiled-is, table-checked}
-use Rattle.program.specs.Walk.{partAt, linksOf, Linked}
-use Rattle.program.proofs.Standing.{Alone, alone, alone-part}
+use Rattle.walk.specs.Walk.{partAt, linksOf, Linked}
+use Rattle.walk.proofs.Standing.{Alone, alone, alone-part}
 use Rattle.table.specs.Links.{rowsFrom, tableFrom, every, rowMatches}
 use Rattle.table.proofs.TableRows.{rows-from, rows-match}
 

@@ -14,7 +14,7 @@ use Rattle.meaning.specs.declared.Form.{Form}
 use Rattle.meaning.specs.Sizes.{bytesAt, linksLength, headerLength, rowLength}
 use Rattle.meaning.specs.declared.Form.the-variants.{Table}
 use Rattle.meaning.specs.Program.{parts, operandBytes, entryAt, entries, kindByte, entryOperand}
-use Rattle.program.proofs.Entries.{entries-next, entries-past}
+use Rattle.walk.proofs.Entries.{entries-next, entries-past}
 use Rattle.table.specs.Links.{rowFrom, rowsFrom}
 
 pub operand-stored : (l l₁ l₂ l₃ m : List ℕ) (i : ℕ) (o : Operand) → l₁ ≡ set l i (o .b0) → l₂ ≡ set l₁ (i + 1) (o .b1) → l₃ ≡ set l₂ (i + 2) (o .b2) → m ≡ set l₃ (i + 3) (o .b3) → m ≡ sets l i (operandBytes o)

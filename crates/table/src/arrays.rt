@@ -6,7 +6,7 @@ use meaning::Form;
 use meaning::sizes::HEADER;
 use meaning::sizes::OPERAND;
 use part::held::parts;
-use program::walker::entry_at;
+use walk::walker::entry_at;
 ghost use mathlib.Core.Path.{_≡_};
 ghost use Prim.Native.Nat.{_+_};
 ghost use lib.Seq.{sets};

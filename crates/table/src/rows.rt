@@ -10,7 +10,7 @@ use meaning::sizes::HEADER;
 use meaning::sizes::LINKS;
 use meaning::sizes::ROW;
 use part::held::parts;
-use program::walker::entry_at;
+use walk::walker::entry_at;
 ghost use mathlib.Core.Path.{_≡_};
 ghost use Prim.Native.Nat.{_+_, _*_, _<_};
 ghost use lib.ListN.{getD};

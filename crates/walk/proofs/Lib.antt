@@ -1,0 +1,7 @@
+pub mod Entries
+pub mod Standing
+pub mod Storing
+pub mod Numbers
+pub mod Machine
+pub mod Reaching
+pub mod Linking
