@@ -10,12 +10,12 @@ use lib.Seq.{sets}
 use borrow.Author.Tests.{eqb-true, ne-eqb}
 use Rattle.base.specs.Lists.{nonempty, same}
 use Rattle.base.proofs.Lists.{same-eq}
+use Rattle.words.specs.declared.Numeral.{Numeral}
+use Rattle.words.specs.declared.Numeral.the-variants.{Value, NoNumber}
+use Rattle.words.specs.declared.Pairs.{Pairs}
+use Rattle.words.specs.Words.{trimmed, wordOf, restOf, pairBytes, pairsOf, numeralOf}
 use Rattle.calls.specs.declared.Line.{Line}
 use Rattle.calls.specs.declared.Line.the-variants.{Passed, Offer, OfferInto, NotACall}
-use Rattle.calls.specs.declared.Numeral.{Numeral}
-use Rattle.calls.specs.declared.Numeral.the-variants.{Value, NoNumber}
-use Rattle.calls.specs.declared.Pairs.{Pairs}
-use Rattle.calls.specs.Words.{trimmed, wordOf, restOf, pairBytes, pairsOf, numeralOf}
 use Rattle.calls.specs.Lines.{beginWord, offerWord, settleWord, passedOver, beginWith, settleWith, offerInto, offerAt, offerWith, callOf, lineOf, bytesAfter, bytesOf}
 
 pub passes : (w : List ℕ) (x : ℕ) → x ≡ getD w 0 0 → (eqb (length w) 0 || eqb x 35) ≡ passedOver w

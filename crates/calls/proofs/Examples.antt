@@ -2,9 +2,9 @@
 use Prim.Native.Nat.{ℕ}
 use mathlib.Core.Path.{_≡_, refl}
 use mathlib.Core.List.{List, [], _∷_, _++_, map}
+use Rattle.words.specs.Words.{leading, trimmed, wordOf, restOf, digitOf, pairBytes, pairsOnly, pairsOf, nextValue, valueFrom, numeralOf}
 use Rattle.calls.specs.declared.Line.{Line}
 use Rattle.calls.specs.declared.Line.the-variants.{Passed, Begin, Offer, OfferInto, Settle, NotACall}
-use Rattle.calls.specs.Words.{leading, trimmed, wordOf, restOf, digitOf, pairBytes, pairsOnly, pairsOf, nextValue, valueFrom, numeralOf}
 use Rattle.calls.specs.Lines.{beginWord, offerWord, settleWord, offerWith, callOf, lineOf, bytesAfter, bytesOf}
 
 -- a line, what it says, and the bytes that it carries

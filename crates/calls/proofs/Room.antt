@@ -8,13 +8,13 @@ use lib.ListN.{length, take, drop, length-drop}
 use lib.Seq.{sets, take-at}
 use Rattle.base.specs.Lists.{nonempty, same}
 use Rattle.base.proofs.Stores.{sets-start}
+use Rattle.words.specs.declared.Numeral.{Numeral}
+use Rattle.words.specs.declared.Numeral.the-variants.{Value, NoNumber}
+use Rattle.words.specs.declared.Pairs.{Pairs}
+use Rattle.words.specs.declared.Pairs.the-variants.{Whole, Broken}
+use Rattle.words.specs.Words.{isSpace, isOther, isPair, pairByte, leading, trimmed, wordOf, restOf, pairBytes, pairsOnly, pairsOf, numeralOf}
 use Rattle.calls.specs.declared.Line.{Line}
 use Rattle.calls.specs.declared.Line.the-variants.{Passed, Begin, Offer, OfferInto, Settle, NotACall}
-use Rattle.calls.specs.declared.Numeral.{Numeral}
-use Rattle.calls.specs.declared.Numeral.the-variants.{Value, NoNumber}
-use Rattle.calls.specs.declared.Pairs.{Pairs}
-use Rattle.calls.specs.declared.Pairs.the-variants.{Whole, Broken}
-use Rattle.calls.specs.Words.{isSpace, isOther, isPair, pairByte, leading, trimmed, wordOf, restOf, pairBytes, pairsOnly, pairsOf, numeralOf}
 use Rattle.calls.specs.Lines.{beginWord, offerWord, settleWord, passedOver, beginWith, settleWith, offerInto, offerAt, offerWith, callOf, lineOf, bytesAfter, bytesOf}
 
 pairs-half : (l : List ℕ) → 2 * length (pairBytes l) ≤ length l

@@ -4,13 +4,13 @@ use mathlib.Core.Bool.{Bool, true, cond, _||_}
 use mathlib.Core.List.{List, [], _∷_}
 use lib.Dec.{eqb}
 use Rattle.base.specs.Lists.{nonempty, same}
+use Rattle.words.specs.declared.Numeral.{Numeral}
+use Rattle.words.specs.declared.Numeral.the-variants.{Value, NoNumber}
+use Rattle.words.specs.declared.Pairs.{Pairs}
+use Rattle.words.specs.declared.Pairs.the-variants.{Whole, Broken}
+use Rattle.words.specs.Words.{trimmed, wordOf, restOf, pairBytes, pairsOf, numeralOf}
 use Rattle.calls.specs.declared.Line.{Line}
 use Rattle.calls.specs.declared.Line.the-variants.{Passed, Begin, Offer, OfferInto, Settle, NotACall}
-use Rattle.calls.specs.declared.Numeral.{Numeral}
-use Rattle.calls.specs.declared.Numeral.the-variants.{Value, NoNumber}
-use Rattle.calls.specs.declared.Pairs.{Pairs}
-use Rattle.calls.specs.declared.Pairs.the-variants.{Whole, Broken}
-use Rattle.calls.specs.Words.{trimmed, wordOf, restOf, pairBytes, pairsOf, numeralOf}
 
 -- "begin", "offer" and "settle"
 abbrev pub beginWord : List ℕ

@@ -1,16 +1,15 @@
 // Reads one line of a list of calls: `begin HEX`, `offer TIME`, `offer TIME LENGTH` or `settle HEX`.
-pub mod decimal;
-pub mod hexadecimal;
 pub mod pieces;
-pub mod words;
 
-use crate::decimal::numeral;
-use crate::hexadecimal::read_pairs;
-use crate::words::is_word;
-use crate::words::rest_of;
-use crate::words::trimmed;
-use crate::words::word_of;
 use base::at;
+use words::Numeral;
+use words::Pairs;
+use words::decimal::numeral;
+use words::hexadecimal::read_pairs;
+use words::is_word;
+use words::rest_of;
+use words::trimmed;
+use words::word_of;
 ghost use mathlib.Core.Path.{_≡_};
 ghost use lib.Seq.{sets};
 ghost use Rattle.calls.specs.Lines.{passedOver, beginWith, settleWith, offerWith, callOf, lineOf, bytesAfter, bytesOf};
@@ -24,18 +23,6 @@ pub enum Line {
     OfferInto(u32, u32),
     Settle(usize),
     NotACall,
-}
-
-// A number below 2^32 in decimal, or a word that is none.
-pub enum Numeral {
-    Value(u32),
-    NoNumber,
-}
-
-// How many bytes pairs of hexadecimal digits gave, or a fault in them.
-pub enum Pairs {
-    Whole(usize),
-    Broken,
 }
 
 // Whether a line with this first word is passed over.

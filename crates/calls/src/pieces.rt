@@ -1,7 +1,7 @@
 // Input held piece by piece in a buffer.
-use crate::words::find;
 use base::at;
 use base::put;
+use words::find;
 ghost use mathlib.Core.Path.{_≡_};
 ghost use Prim.Native.Nat.{_-_};
 ghost use lib.Seq.{sets};

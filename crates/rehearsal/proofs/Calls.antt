@@ -14,7 +14,7 @@ use Rattle.meaning.specs.Program.{variables}
 use Rattle.meaning.specs.Answers.{answered, answerNumber, offerNumber, settleNumber}
 use Rattle.meaning.specs.Operations.{Begun, Offered, Settled}
 use Rattle.text.specs.Writing.{Written}
-use Rattle.transcript.specs.Transcript.{begunText, offeredText, settledText}
+use Rattle.answers.specs.Answers.{begunText, offeredText, settledText}
 use Rattle.rehearsal.specs.declared.Turn.{Turn}
 use Rattle.rehearsal.specs.Counting.{more, begunCycles, settledCycles}
 use Rattle.rehearsal.specs.Rehearsal.{BeginTold, OfferTold, SettleTold, Turned}

@@ -1,4 +1,3 @@
-pub mod Words
 pub mod Counted
 pub mod Rooms
 pub mod Estimates

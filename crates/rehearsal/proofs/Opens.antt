@@ -21,7 +21,8 @@ use Rattle.meaning.specs.Table.{compiled, readRefusal, readInto}
 use Rattle.meaning.proofs.Answers.{not-refused, is-refused}
 use Rattle.agreement.proofs.Operations.{read-accepted, compiled-length}
 use Rattle.text.specs.Writing.{Written}
-use Rattle.transcript.specs.Transcript.{refusedText, maxAnswer}
+use Rattle.answers.specs.Answers.{refusedText}
+use Rattle.transcript.specs.Transcript.{maxAnswer}
 use Rattle.transcript.proofs.Lengths.{refused-fits}
 use Rattle.rehearsal.specs.declared.Opened.{Opened}
 use Rattle.rehearsal.specs.Opening.{openedText, Opening}

@@ -7,7 +7,8 @@ use Rattle.base.specs.Lists.{bytesAt}
 use Rattle.base.proofs.Stores.{length-bytes}
 use Rattle.meaning.specs.Program.{variables, clocks}
 use Rattle.text.specs.Writing.{Written}
-use Rattle.transcript.specs.Transcript.{refusedText, begunText, offeredText, settledText, lineText, summaryText, maxSummary}
+use Rattle.answers.specs.Answers.{refusedText, begunText, offeredText, settledText, lineText}
+use Rattle.transcript.specs.Transcript.{summaryText, maxSummary}
 use Rattle.transcript.proofs.Lengths.{line-fits, refused-fits, begun-fits, settled-fits, offered-fits, summary-fits}
 
 pub refused-room : (n : ℕ) → 0 + length (refusedText n) < 2 ^ 64

@@ -7,7 +7,7 @@ use lib.ListN.{replicate}
 use Rattle.meaning.specs.Program.{variables}
 use Rattle.calls.specs.declared.Line.{Line}
 use Rattle.calls.specs.declared.Line.the-variants.{Passed, Begin, Offer, OfferInto, Settle, NotACall}
-use Rattle.transcript.specs.Transcript.{lineText}
+use Rattle.answers.specs.Answers.{lineText}
 use Rattle.rehearsal.specs.declared.Turn.{Turn}
 use Rattle.rehearsal.specs.Counting.{begunCycles, settledCycles}
 use Rattle.rehearsal.specs.Rehearsal.{maxGoals, Is, BeginTold, OfferTold, SettleTold, Told, cyclesAt, endsRun, Turned}

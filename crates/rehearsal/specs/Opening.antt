@@ -10,7 +10,7 @@ use Rattle.meaning.specs.declared.Form.the-variants.{Table}
 use Rattle.meaning.specs.Sizes.{lengthOf}
 use Rattle.meaning.specs.Program.{parts}
 use Rattle.meaning.specs.Table.{readRefusal, readInto}
-use Rattle.transcript.specs.Transcript.{refusedText}
+use Rattle.answers.specs.Answers.{refusedText}
 use Rattle.rehearsal.specs.declared.Opened.{Opened}
 
 -- by reading's answer, 0 or the refusal's number

@@ -13,7 +13,8 @@ use Rattle.text.specs.Words.{word}
 use Rattle.calls.specs.declared.Line.{Line}
 use Rattle.calls.specs.declared.Line.the-variants.{Passed, Begin, Offer, OfferInto, Settle, NotACall}
 use Rattle.calls.specs.Lines.{lineOf, bytesOf}
-use Rattle.transcript.specs.Transcript.{begunText, offeredText, settledText, partsText, lineText}
+use Rattle.answers.specs.Answers.{begunText, offeredText, settledText, lineText}
+use Rattle.transcript.specs.Transcript.{partsText}
 use Rattle.rehearsal.specs.declared.Turn.{Turn}
 use Rattle.rehearsal.specs.Counting.{begunCycles, settledCycles}
 

@@ -1,5 +1,5 @@
 // What a rehearsal is asked for.
-use base::at;
+use words::is_word;
 ghost use mathlib.Core.Path.{_≡_};
 ghost use Rattle.base.specs.Lists.{same};
 ghost use Rattle.rehearsal.specs.Rehearsal.{partsWord};
@@ -8,8 +8,5 @@ ghost use Rattle.rehearsal.specs.Rehearsal.{partsWord};
 pub fn asks_parts(s: &[u8]) -> bool
     ensures { λ b. ⌜ b ≡ same (now (s .entry)) partsWord ⌝ }
 {
-    (s.len() == 5)
-        & ((at(s, 0) == b'p')
-            & ((at(s, 1) == b'a')
-                & ((at(s, 2) == b'r') & ((at(s, 3) == b't') & (at(s, 4) == b's')))))
+    is_word(s, b"parts")
 }

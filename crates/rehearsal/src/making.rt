@@ -2,21 +2,21 @@
 use crate::Turn;
 use crate::counting::after_begin;
 use crate::counting::after_settle;
+use answers::write_begun;
+use answers::write_line_fault;
+use answers::write_offered;
+use answers::write_settled;
 use base::wide;
 use begin::begin;
 use calls::Line;
 use offer::offer;
 use part::held::variables;
 use settle::settle;
-use transcript::answers::write_begun;
-use transcript::answers::write_line_fault;
-use transcript::answers::write_offered;
-use transcript::answers::write_settled;
 ghost use mathlib.Core.Path.{_≡_};
 ghost use mathlib.Core.Bool.{true, false};
 ghost use Prim.Native.Nat.{_≤_, min};
 ghost use lib.ListN.{replicate};
-ghost use Rattle.transcript.specs.Transcript.{lineText};
+ghost use Rattle.answers.specs.Answers.{lineText};
 ghost use Rattle.rehearsal.specs.Counting.{begunCycles, settledCycles};
 ghost use Rattle.rehearsal.specs.Rehearsal.{maxGoals, Is, BeginTold, OfferTold, SettleTold, Told, cyclesAt, endsRun, Turned};
 

@@ -1,11 +1,11 @@
 // Reading the program file.
 use crate::Opened;
+use answers::write_refused;
 use meaning::Answer;
 use meaning::Form;
 use part::held::length_of;
 use part::held::parts;
 use table::compile;
-use transcript::answers::write_refused;
 ghost use Rattle.rehearsal.specs.Opening.{Opening};
 
 // Reads a program file into its table, or writes why it is refused.

@@ -5,8 +5,8 @@ use mathlib.Core.Path.{_≡_, refl}
 use mathlib.Core.Bool.{Bool}
 use mathlib.Core.List.{List}
 use lib.ListN.{take, drop}
+use Rattle.words.proofs.Leading.{place-within}
 use Rattle.calls.specs.Places.{lineEnd}
-use Rattle.calls.proofs.Leading.{place-within}
 use Rattle.rehearsal.specs.declared.Turn.{Turn}
 use Rattle.rehearsal.specs.Counting.{more}
 use Rattle.rehearsal.specs.Rehearsal.{Answered}

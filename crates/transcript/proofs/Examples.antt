@@ -1,5 +1,5 @@
 -- Lines of a transcript, computed by the definitions.
-use Prim.Native.Nat.{ℕ, _+_}
+use Prim.Native.Nat.{ℕ}
 use mathlib.Core.Path.{_≡_, refl}
 use mathlib.Core.List.{List, [], _∷_}
 use Rattle.meaning.specs.Record.{recordBytes}
@@ -7,15 +7,7 @@ use Rattle.text.specs.Decimal.{digits, decimal}
 use Rattle.text.specs.Hexadecimal.{pairs}
 use Rattle.text.specs.Words.{word, numbered}
 use Rattle.text.specs.Writing.{textsFrom}
-use Rattle.transcript.specs.Transcript.{refusedText, namedText, goalsText, offeredText, partText, marksText, partsText, estimateText, startText, clockText, clocksText, finishingText, stateText, summaryText}
-
-refused : refusedText 13 ≡ word "refused 13\n"
-unfolding digits decimal numbered
-refused = refl
-
-agreed : offeredText (256 + 255) (1 ∷ 255 ∷ []) ≡ word "goals 01 FF named none\n"
-unfolding pairs namedText goalsText offeredText digits decimal numbered
-agreed = refl
+use Rattle.transcript.specs.Transcript.{partText, marksText, partsText, estimateText, startText, clockText, clocksText, finishingText, stateText, summaryText}
 
 -- three parts, two variables and two clocks; the first clock started at 100
 sizes : List ℕ

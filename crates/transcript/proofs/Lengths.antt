@@ -1,64 +1,30 @@
 -- How long the lines are at most: a buffer of `maxAnswer` bytes has room for every answer with the parts under it, one of `maxSummary`
 -- for every summary. The sizes of a table are bytes, which is all that is asked of them.
-use Prim.Native.Nat.{ℕ, _+_, _-_, _*_, _≤_, _<_}
+use Prim.Native.Nat.{ℕ, _+_, _*_, _≤_, _<_}
 use native.Mathlib.Omega.{arith}
 use mathlib.Core.Path.{refl}
-use mathlib.Core.Bool.{Bool, true, false, cond}
 use mathlib.Core.List.{List, [], _++_}
-use lib.Dec.{eqb, ltb}
+use lib.Dec.{eqb}
 use lib.ListN.{length, getD}
 use Rattle.base.proofs.Stores.{length-bytes}
 use Rattle.meaning.specs.Program.{parts, variables, clocks}
 use Rattle.meaning.specs.Record.{estimatePlace, phaseOf, lastTime, estimateIn, startedIn, startsIn, marksIn, finished, isMark}
-use Rattle.meaning.specs.Answers.{answered}
-use Rattle.meaning.specs.Cycle.{noGoal}
 use Rattle.text.specs.Decimal.{maxDigits, decimal}
 use Rattle.text.specs.Words.{word, numbered}
 use Rattle.text.proofs.Digits.{decimal-few}
 use Rattle.text.proofs.Texts.{three-length, texts-fit}
 use Rattle.text.proofs.Pairs.{length-pairs}
 use Rattle.text.proofs.Labels.{numbered-fits}
-use Rattle.transcript.specs.Transcript.{refusedText, begunText, settledText, namedText, goalsText, offeredText, partText, marksText, partsText, lineText, estimateText, startText, clockText, clocksText, finishingText, summaryText, maxAnswer, maxSummary}
-use Rattle.transcript.proofs.Answering.{goals-pieces, line-pieces}
+use Rattle.answers.specs.Answers.{refusedText, begunText, settledText, offeredText, lineText}
+use Rattle.answers.proofs.Answering.{line-pieces}
+use Rattle.answers.proofs.Lengths.{either-fits, refused-short, begun-short, settled-short, offered-long}
+use Rattle.transcript.specs.Transcript.{partText, marksText, partsText, estimateText, startText, clockText, clocksText, finishingText, summaryText, maxAnswer, maxSummary}
 use Rattle.transcript.proofs.Marked.{parts-pieces}
 use Rattle.transcript.proofs.Summing.{estimate-pieces, clock-pieces, state-pieces, summary-pieces}
 
--- one of two texts
-either-fits : (b : Bool) (xs ys : List ℕ) (n : ℕ) → length xs ≤ n → length ys ≤ n → length (cond b xs ys) ≤ n
-either-fits true xs ys n x y = x
-either-fits false xs ys n x y = y
-
--- The lines without goals
-abbrev maxShort : ℕ
-maxShort = 8 + maxDigits + 1
-
-refused-short : (n : ℕ) → length (refusedText n) ≤ maxShort
-refused-short n = numbered-fits (word "refused ") n
-
-begun-short : (n : ℕ) → length (begunText n) ≤ maxShort
-unfolding begunText
-begun-short n = either-fits (eqb n 0) (word "begun\n") (refusedText n) maxShort (omega arith) (refused-short n)
-
-settled-short : (n : ℕ) → length (settledText n) ≤ maxShort
-unfolding settledText
-settled-short n =
-    either-fits (ltb n answered) (refusedText n) (cond (eqb n answered) (word "running\n") (word "finished\n")) maxShort (refused-short n)
-    (either-fits (eqb n answered) (word "running\n") (word "finished\n") maxShort (omega arith) (omega arith))
-
+-- The line of a fault
 pub line-fits : (n : ℕ) → length (lineText n) ≤ maxAnswer
 line-fits n = omega (arith, three-length (line-pieces n), decimal-few n)
-
--- The line with the goals
-named-fits : (v : ℕ) → length (namedText v) ≤ 7 + maxDigits + 1
-unfolding namedText
-named-fits v = either-fits (eqb v noGoal) (word " named none\n") (numbered (word " named ") v) (7 + maxDigits + 1) (omega arith) (numbered-fits (word " named ") v)
-
-goals-fits : (goals : List ℕ) (v : ℕ) → length (goalsText goals v) ≤ 5 + 3 * length goals + (7 + maxDigits + 1)
-goals-fits goals v = omega (arith, three-length (goals-pieces goals v), length-pairs goals, named-fits v)
-
-offered-long : (n : ℕ) (goals : List ℕ) → length (offeredText n goals) ≤ 5 + 3 * length goals + (7 + maxDigits + 1)
-unfolding offeredText
-offered-long n goals = either-fits (ltb n answered) (refusedText n) (goalsText goals (n - answered)) (5 + 3 * length goals + (7 + maxDigits + 1)) (omega (arith, refused-short n)) (goals-fits goals (n - answered))
 
 -- The marked parts
 part-fits : (t r : List ℕ) (p : ℕ) → length (partText t r p) ≤ 1 + maxDigits

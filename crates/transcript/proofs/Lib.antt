@@ -1,4 +1,3 @@
-pub mod Answering
 pub mod Marked
 pub mod Summing
 pub mod Lengths

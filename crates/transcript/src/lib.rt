@@ -1,5 +1,4 @@
-// The lines that a rehearsal prints.
-pub mod answers;
+// The lines that a rehearsal prints beside the answers: the marked parts under one, and the summary.
 pub mod parts;
 pub mod summary;
 
