@@ -17,8 +17,9 @@ use Rattle.calls.specs.declared.Line.the-variants.{Passed, Begin, Offer, OfferI
 use Rattle.calls.specs.Lines.{bytesOf}
 use Rattle.transcript.specs.Transcript.{partsText, maxAnswer}
 use Rattle.transcript.proofs.Lengths.{line-fits, begun-fits, settled-fits, offered-fits}
-use Rattle.rehearsal.specs.declared.Turn.{Turn}
-use Rattle.rehearsal.specs.Rehearsal.{OfferTold, Told, cyclesAt, isCall, endsRun, partsUnder, Turned, Answered, estimateLength, Hearing, Under}
+use Rattle.conduct.specs.declared.Turn.{Turn}
+use Rattle.conduct.specs.Making.{OfferTold, Told, cyclesAt, endsRun, Turned}
+use Rattle.rehearsal.specs.Rehearsal.{isCall, partsUnder, Answered, estimateLength, Hearing, Under}
 use Rattle.rehearsal.proofs.Estimates.{told-carried, cycles-carried}
 
 -- the parts, where they are not asked for and where they are
@@ -73,10 +74,10 @@ module _ (t r line bytes : List ℕ) (cycles number k : ℕ) (x : Line) (asked b
     answer-room = omega (arith, fits)
 
     module _ (out' : List ℕ) (turn' : Turn) (u : Under (asked && b) t r' turn mid out' turn') where
-      pub answer-short : turn' .length ≤ maxAnswer
+      answer-short : turn' .length ≤ maxAnswer
       answer-short = omega (arith, u .written .after, fits)
 
-      pub line-answered : Answered t r cycles number asked line r' out out' turn'
+      line-answered : Answered t r cycles number asked line r' out out' turn'
       line-answered =
           rw (sym (h .line-is))
           (record {
@@ -86,3 +87,6 @@ module _ (t r line bytes : List ℕ) (cycles number k : ℕ) (x : Line) (asked b
             cycles-are = u .cycles-are ∙ z .cycles-are ∙ rw k-is (cycles-carried bytes (bytesOf line) t r cycles x (h .carried));
             ends-is = u .ends-is ∙ z .ends-is;
           })
+
+      pub answer-made : Answered t r cycles number asked line r' out out' turn' × (turn' .length ≤ maxAnswer)
+      answer-made = (line-answered, answer-short)

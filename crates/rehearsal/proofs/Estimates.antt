@@ -10,7 +10,8 @@ use Rattle.calls.specs.declared.Line.{Line}
 use Rattle.calls.specs.declared.Line.the-variants.{Passed, Begin, Offer, OfferInto, Settle, NotACall}
 use Rattle.calls.specs.Lines.{lineOf, bytesOf}
 use Rattle.calls.proofs.Room.{room, begin-number, settle-number, estimate-stored}
-use Rattle.rehearsal.specs.Rehearsal.{maxLine, heard, Told, cyclesAt, estimateLength, Carried, Hearing}
+use Rattle.conduct.specs.Making.{Told, cyclesAt}
+use Rattle.rehearsal.specs.Rehearsal.{maxLine, heard, estimateLength, Carried, Hearing}
 
 -- a line and the buffer that it is read into
 module _ (l bytes : List ℕ) (n : ℕ) (bytes-are : bytes ≡ sets (replicate n 0) 0 (bytesOf l)) (fits : length l ≤ n) where

@@ -20,8 +20,9 @@ use Rattle.calls.specs.declared.Line.{Line}
 use Rattle.calls.specs.declared.Line.the-variants.{Passed, Begin, Offer, OfferInto, Settle, NotACall}
 use Rattle.calls.specs.Lines.{bytesOf}
 use Rattle.transcript.specs.Transcript.{finishingText}
-use Rattle.rehearsal.specs.Counting.{maxCount, more, begunCycles, settledCycles}
-use Rattle.rehearsal.specs.Rehearsal.{heard, maxGoals, Told, cyclesAt}
+use Rattle.conduct.specs.Counting.{maxCount, more, begunCycles, settledCycles}
+use Rattle.conduct.specs.Making.{maxGoals, Told, cyclesAt}
+use Rattle.rehearsal.specs.Rehearsal.{heard}
 
 -- the count after a call, and after a list of calls
 abbrev pub cyclesAfter : List ℕ → List ℕ → ℕ → Call → ℕ

@@ -1,14 +1,13 @@
 // One line of a rehearsal: what it asks for is done, and what comes of it is written.
 pub mod asking;
-pub mod counting;
 pub mod hearing;
-pub mod making;
 pub mod opening;
 
 use crate::hearing::estimate_length;
 use crate::hearing::hear;
 use crate::hearing::is_call;
-use crate::making::make;
+use conduct::Turn;
+use conduct::making::make;
 use transcript::parts::write_parts;
 use transcript::summary::write_summary;
 ghost use Prim.Native.Nat.{_+_, _≤_, _<_, _^_};
@@ -19,13 +18,6 @@ ghost use Rattle.rehearsal.specs.Rehearsal.{partsUnder, Answered, Under}
 
 // The longest line that can be a call.
 pub const MAX_LINE: usize = 4095;
-
-// What a line has come to: how long the text is, the count of cycles, and whether the run ends here.
-pub struct Turn {
-    pub length: usize,
-    pub cycles: u64,
-    pub ends: bool,
-}
 
 // What a program file has come to: whether it is read, and how long its table is, or else the text that
 // says why it is not.

@@ -5,8 +5,8 @@ use mathlib.Core.Bool.{Bool}
 use mathlib.Core.List.{List}
 use lib.ListN.{take, drop}
 use Rattle.calls.specs.Places.{lineEnd}
-use Rattle.rehearsal.specs.declared.Turn.{Turn}
-use Rattle.rehearsal.specs.Counting.{more}
+use Rattle.conduct.specs.declared.Turn.{Turn}
+use Rattle.conduct.specs.Counting.{more}
 use Rattle.rehearsal.specs.Rehearsal.{Answered}
 use Rattle.rehearse.specs.declared.lines.Stand.{Stand}
 

@@ -2,12 +2,12 @@
 use crate::input::read_piece;
 use calls::pieces::line_end;
 use calls::pieces::shift;
+use conduct::counting::one_more;
 use libc::STDIN_FILENO;
 use libc::STDOUT_FILENO;
 use meaning::sizes::RECORD;
 use rehearsal::MAX_LINE;
 use rehearsal::answer_line;
-use rehearsal::counting::one_more;
 use rehearsal::summarise;
 use transcript::MAX_ANSWER;
 use transcript::MAX_SUMMARY;

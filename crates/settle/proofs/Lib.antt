@@ -1,4 +1,3 @@
-pub mod Starting
 pub mod Deciding
 pub mod Answering
 pub mod Committing

@@ -1,3 +1,2 @@
-pub mod Starting
 pub mod Deciding
 pub mod Answering

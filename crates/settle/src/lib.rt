@@ -1,8 +1,6 @@
 // Settling: the second half of a cycle.
-pub mod clocks;
 pub mod works;
 
-use crate::clocks::start_clocks;
 use crate::works::works;
 use allowed::examine;
 use allowed::values::estimate_allowed;
@@ -10,6 +8,7 @@ use base::at;
 use base::copy;
 use base::put;
 use base::wide;
+use clocks::start_clocks;
 use marks::settled::settle_marks;
 use meaning::Answer;
 use meaning::Refusal;

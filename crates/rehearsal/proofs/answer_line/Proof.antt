@@ -1,6 +1,6 @@
 -- `answer_line` meets its contract: the line is heard, what it says is done, and the parts stand under it. A size of a table is a byte, so the text fits.
 use Rattle.rehearsal.proofs.Estimates.{hearing-fits}
-use Rattle.rehearsal.proofs.Answered.{answer-room, answer-short, line-answered}
+use Rattle.rehearsal.proofs.Answered.{answer-room, answer-made}
 use native.Mathlib.Omega.{arith}
 use borrow.Author.Needs.{needs}
 use lib.ListN.{length-take}
@@ -50,7 +50,7 @@ returns c =
     let counted = made .before .before .before .before in
     let heard = counted .before .before in
     let sizes = heard .before .before .before .before .before .shared-slice-known .given in
-    (line-answered _ _ _ _ _ _ _ _ (heard .before .before .before .before .before .before .args .asked) _ _ _ _ _ (heard .hear .ensures) (counted .estimate-length .ensures) (called .is-call .ensures) (made .make .ensures) (sizes 0 .fits) (sizes 1 .fits) _ _ (c .before .before .add-parts .ensures), answer-short _ _ _ _ _ _ _ _ (heard .before .before .before .before .before .before .args .asked) _ _ _ _ _ (heard .hear .ensures) (counted .estimate-length .ensures) (called .is-call .ensures) (made .make .ensures) (sizes 0 .fits) (sizes 1 .fits) _ _ (c .before .before .add-parts .ensures))
+    answer-made _ _ _ _ _ _ _ _ (heard .before .before .before .before .before .before .args .asked) _ _ _ _ _ (heard .hear .ensures) (counted .estimate-length .ensures) (called .is-call .ensures) (made .make .ensures) (sizes 0 .fits) (sizes 1 .fits) _ _ (c .before .before .add-parts .ensures)
 
 pub answer-line-spec : {M : Type 1} → statement M
 answer-line-spec =

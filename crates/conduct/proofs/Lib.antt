@@ -1,0 +1,4 @@
+pub mod Counted
+pub mod Rooms
+pub mod Calls
+pub mod Said
