@@ -6,17 +6,12 @@ use mathlib.Core.List.{List, [], _++_}
 use lib.Dec.{leb}
 use lib.ListN.{length, take}
 use Rattle.text.specs.Writing.{Written}
-use Rattle.text.specs.Words.{word}
 use Rattle.calls.specs.declared.Line.{Line}
 use Rattle.calls.specs.declared.Line.the-variants.{Passed, Begin, Offer, OfferInto, Settle, NotACall}
 use Rattle.calls.specs.Lines.{lineOf, bytesOf}
 use Rattle.transcript.specs.Transcript.{partsText}
 use Rattle.conduct.specs.declared.Turn.{Turn}
 use Rattle.conduct.specs.Making.{Told, cyclesAt, endsRun, Turned}
-
--- With this word the marked parts are asked for
-abbrev pub partsWord : List ℕ
-partsWord = word "parts"
 
 -- A longer line is no call
 abbrev pub maxLine : ℕ

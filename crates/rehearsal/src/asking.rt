@@ -1,12 +1,21 @@
-// What a rehearsal is asked for.
+// What the arguments of a rehearsal ask for.
 use words::is_word;
 ghost use mathlib.Core.Path.{_≡_};
-ghost use Rattle.base.specs.Lists.{same};
-ghost use Rattle.rehearsal.specs.Rehearsal.{partsWord};
+ghost use Rattle.rehearsal.specs.Asking.{wishOf};
 
-// Whether an argument asks for the marked parts.
-pub fn asks_parts(s: &[u8]) -> bool
-    ensures { λ b. ⌜ b ≡ same (now (s .entry)) partsWord ⌝ }
+// Whether the arguments are clear, and whether the marked parts are asked for.
+pub struct Wish {
+    pub clear: bool,
+    pub parts: bool,
+}
+
+// The wish of so many arguments, of which the second names a file and the third is a word.
+pub fn wish_of(count: usize, file: &[u8], word: &[u8]) -> Wish
+    ensures { λ w. ⌜ w ≡ wishOf count (now (file .entry)) (now (word .entry)) ⌝ }
 {
-    is_word(s, b"parts")
+    let parts = (count == 3) & is_word(word, b"parts");
+    Wish {
+        clear: (0 < file.len()) & ((count == 2) | parts),
+        parts: parts,
+    }
 }

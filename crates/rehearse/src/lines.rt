@@ -1,8 +1,9 @@
 // The calls on standard input, line by line.
-use crate::input::read_piece;
 use calls::pieces::line_end;
 use calls::pieces::shift;
 use conduct::counting::one_more;
+use input::Piece;
+use input::read_piece;
 use libc::STDIN_FILENO;
 use libc::STDOUT_FILENO;
 use meaning::sizes::RECORD;
@@ -14,7 +15,7 @@ use transcript::MAX_SUMMARY;
 ghost use mathlib.Core.Path.{_≡_};
 ghost use Prim.Native.Nat.{_≤_};
 ghost use lib.ListN.{length};
-ghost use Rattle.rehearse.specs.Standing.{Goes, Takes};
+ghost use Rattle.rehearse.specs.Standing.{starting, readTo, afterLast, Goes, ReadsOn, Takes, Runs};
 
 // Where a rehearsal stands: the bytes of the input buffer from place `from` on and before place
 // `held` are still to be answered, `number` lines have been, and `cycles` is the count of cycles.
@@ -41,7 +42,7 @@ pub(crate) fn print(text: &[u8], n: usize) -> bool
 
 // Answers a line. The input goes on at place `from`.
 fn answer(t: &[u8], r: &mut [u8], asked: bool, line: &[u8], s: Stand, from: usize) -> Stand
-    ensures { λ n. ⌜ Goes (now (t .entry)) (now (r .entry)) asked (now (line .entry)) s from (now (r .exit)) n ⌝ }
+    ensures { λ e. ⌜ Goes (now (t .entry)) (now (r .entry)) asked (now (line .entry)) s from (now (r .exit)) e ⌝ }
 {
     let mut text = [0u8; MAX_ANSWER];
     let number = one_more(s.number);
@@ -57,9 +58,23 @@ fn answer(t: &[u8], r: &mut [u8], asked: bool, line: &[u8], s: Stand, from: usiz
     }
 }
 
+// Before anything is read.
+fn start() -> Stand
+    ensures { λ e. ⌜ e ≡ starting ⌝ }
+{
+    Stand {
+        from: 0,
+        held: 0,
+        number: 0,
+        cycles: 0,
+        going: true,
+        complete: false,
+    }
+}
+
 // After the last line: complete, unless that line ended the run.
 fn ended(s: Stand) -> Stand
-    ensures { λ e. ⌜ (e .from ≡ 0) × (e .held ≡ 0) ⌝ }
+    ensures { λ e. ⌜ e ≡ afterLast s ⌝ }
 {
     Stand {
         from: 0,
@@ -71,22 +86,31 @@ fn ended(s: Stand) -> Stand
     }
 }
 
+// After a read: the buffer holds k bytes.
+fn read_to(s: Stand, k: usize, going: bool) -> Stand
+    ensures { λ e. ⌜ e ≡ readTo s k going ⌝ }
+{
+    Stand {
+        from: 0,
+        held: k,
+        number: s.number,
+        cycles: s.cycles,
+        going: going,
+        complete: false,
+    }
+}
+
 // Reads on, after the first n bytes of the buffer. Where the input ends, they are its last line.
 fn read_on(t: &[u8], r: &mut [u8], asked: bool, input: &mut [u8], s: Stand, n: usize) -> Stand
     requires { ⌜ n ≤ length (now input) ⌝ }
-    ensures { λ e. ⌜ (e .from ≤ e .held) × (e .held ≤ length (now (input .entry))) ⌝ }
+    ensures { λ e. ⌜ ReadsOn (now (t .entry)) (now (r .entry)) asked (now (input .entry)) s n (now (r .exit)) (now (input .exit)) e ⌝ }
 {
     let piece = read_piece(STDIN_FILENO, b"standard input", input, n);
-    let k = piece.held;
-    if !piece.is_read | (n < k) {
-        return Stand {
-            from: 0,
-            held: k,
-            number: s.number,
-            cycles: s.cycles,
-            going: piece.is_read,
-            complete: false,
-        };
+    let Piece::Held(k) = piece else {
+        return read_to(s, n, false);
+    };
+    if n < k {
+        return read_to(s, k, true);
     }
     ended(answer(t, r, asked, &input[..n], s, 0))
 }
@@ -95,8 +119,7 @@ fn read_on(t: &[u8], r: &mut [u8], asked: bool, input: &mut [u8], s: Stand, n: u
 // more holds a line that is too long.
 fn turn(t: &[u8], r: &mut [u8], asked: bool, input: &mut [u8], s: Stand) -> Stand
     requires { ⌜ (s .from ≤ s .held) × (s .held ≤ length (now input)) ⌝ }
-    ensures { λ e. ⌜ (e .from ≤ e .held) × (e .held ≤ length (now (input .entry))) ⌝ }
-    ensures { λ e. ⌜ Takes (now (t .entry)) (now (r .entry)) asked (now (input .entry)) s (now (r .exit)) e ⌝ }
+    ensures { λ e. ⌜ Takes (now (t .entry)) (now (r .entry)) asked (now (input .entry)) s (now (r .exit)) (now (input .exit)) e ⌝ }
 {
     let from = s.from;
     let held = s.held;
@@ -111,25 +134,25 @@ fn turn(t: &[u8], r: &mut [u8], asked: bool, input: &mut [u8], s: Stand) -> Stan
     read_on(t, r, asked, input, s, held - from)
 }
 
-// Answers every line of standard input, and then says what the run has come to. A proved loop has to
-// end, and nothing says that the input does; so it counts its turns down, from a number that no run
-// uses up.
+// Takes turns until the run goes on no more. A proved loop has to end, and nothing says that the
+// input does; so it counts its turns down, from a number that no run uses up.
+fn run(t: &[u8], r: &mut [u8], asked: bool, input: &mut [u8]) -> Stand
+    ensures { λ e. ⌜ Runs (now (t .entry)) (now (r .entry)) asked (now (input .entry)) (now (r .exit)) (now (input .exit)) e ⌝ }
+{
+    let mut s = start();
+    let mut turns = u64::MAX;
+    while turns > 0 && s.going {
+        s = turn(t, r, asked, input, s);
+        turns -= 1;
+    }
+    s
+}
+
+// Answers every line of standard input, and then says what the run has come to.
 pub(crate) fn rehearse(t: &[u8], asked: bool) {
     let mut r = [0u8; RECORD];
     let mut input = [0u8; MAX_LINE + 1];
-    let mut s = Stand {
-        from: 0,
-        held: 0,
-        number: 0,
-        cycles: 0,
-        going: true,
-        complete: false,
-    };
-    let mut turns = u64::MAX;
-    while turns > 0 && s.going {
-        s = turn(t, &mut r, asked, &mut input, s);
-        turns -= 1;
-    }
+    let s = run(t, &mut r, asked, &mut input);
     if s.complete {
         print_summary(t, &r, s.cycles);
     }

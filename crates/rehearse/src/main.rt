@@ -1,38 +1,24 @@
 // Rehearses a station: `rehearse PROGRAM` makes the calls on standard input, one a line, on the
 // program in the file, and prints what each answers; `rehearse PROGRAM parts` prints the marked parts
 // under each answer. What a line comes to stands in `rehearsal`; here are arguments, reads and writes.
-mod input;
 mod lines;
 
-use crate::input::read_whole;
 use crate::lines::print;
 use crate::lines::rehearse;
+use input::Piece;
+use input::is_open;
+use input::read_whole;
 use libc::STDERR_FILENO;
 use meaning::sizes::MAX_FILE;
 use meaning::sizes::MAX_TABLE;
-use rehearsal::asking::asks_parts;
+use rehearsal::asking::wish_of;
 use rehearsal::opening::open_program;
 use transcript::MAX_ANSWER;
 
-// What the second argument asks for.
-enum Asked {
-    Answers,
-    Parts,
-    Unknown,
-}
+// Where the arguments stand that name the program file and ask for the marked parts.
+const FILE: usize = 1;
 
-fn second_argument() -> Asked {
-    let mut word = [0u8; 8];
-    let n = os::arg(2, &mut word);
-    if os::errno() == libc::EINVAL {
-        return Asked::Answers;
-    }
-    if asks_parts(&word[..n]) {
-        Asked::Parts
-    } else {
-        Asked::Unknown
-    }
-}
+const PARTS: usize = 2;
 
 // Rehearses the program of a file, or prints why it is refused.
 fn rehearse_program(file: &[u8], with_parts: bool) {
@@ -51,31 +37,27 @@ fn rehearse_program(file: &[u8], with_parts: bool) {
 // longer one has a wrong length here too and is refused.
 fn rehearse_file(path: &[u8], with_parts: bool) {
     let fd = os::open_read(path);
-    if fd < 0 {
+    if !is_open(fd) {
         os::fail(path);
         return;
     }
     let mut file = [0u8; MAX_FILE + 1];
     let piece = read_whole(fd, path, &mut file);
     libc::close(fd);
-    let n = piece.held;
-    if piece.is_read {
+    if let Piece::Held(n) = piece {
         rehearse_program(&file[..n], with_parts);
     }
 }
 
 fn main() {
     let mut path = io::buffer();
-    let n = os::arg(1, &mut path);
-    if os::errno() != 0 {
-        os::fail(b"program file");
-        return;
-    }
-    match second_argument() {
-        Asked::Answers => rehearse_file(&path[..n], false),
-        Asked::Parts => rehearse_file(&path[..n], true),
-        Asked::Unknown => {
-            io::write_all(STDERR_FILENO, b"after the program file only: parts\n");
-        }
+    let n = os::arg(FILE, &mut path);
+    let mut word = [0u8; 8];
+    let k = os::arg(PARTS, &mut word);
+    let wish = wish_of(os::arg_count(), &path[..n], &word[..k]);
+    if wish.clear {
+        rehearse_file(&path[..n], wish.parts);
+    } else {
+        io::write_all(STDERR_FILENO, b"usage: rehearse PROGRAM [parts]\n");
     }
 }

@@ -144,6 +144,16 @@ fn second_argument_that_is_not_parts() {
     }
 }
 
+#[test]
+fn arguments_after_the_last() {
+    let file = TemporaryFile::holding(&file(1, 1, &goal(0, 1)));
+    let path = file.path().as_os_str();
+    for word in ["parts", ""] {
+        assert_nothing(&[path, OsStr::new("parts"), OsStr::new(word)]);
+        assert_nothing(&[path, OsStr::new(word), OsStr::new(""), OsStr::new("parts")]);
+    }
+}
+
 /// A path may be as long as the system lets it be.
 #[test]
 fn long_path() {

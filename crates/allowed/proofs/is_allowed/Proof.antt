@@ -1,4 +1,5 @@
 -- `is_allowed` meets its contract: each clause of an allowed record has its function.
+use mathlib.Core.Path.{refl}
 use Rattle.meaning.specs.Record.{recordAllowed}
 use borrow.Author.Needs.{needs}
 use Rattle.allowed.proofs.is_allowed.Statement.{statement}
@@ -21,7 +22,7 @@ parts-allowed-requires c κs = search needs
 
 returns : tie.Need-returns
 unfolding recordAllowed
-returns c = cc
+returns c = rw (c .parts-allowed .ensures, c .before .root-allowed .ensures, c .before .before .clocks-allowed .ensures, c .before .before .before .values-allowed .ensures, c .before .before .before .before .rest-zero .ensures) refl
 
 pub is-allowed-spec : {M : Type 1} → statement M
 is-allowed-spec =

@@ -1,6 +1,6 @@
 -- `copy` meets its contract. The loop's invariant: the bytes still to be copied, stored onto what is there now, give the whole.
 use Prim.Native.Nat.{_+_, _-_}
-use mathlib.Core.Path.{_≡_, refl}
+use mathlib.Core.Path.{_≡_, refl, _∙_}
 use borrow.Author.Needs.{needs}
 use native.Mathlib.Nat.{add-zero, sub-zero}
 use native.Mathlib.Omega.{arith}
@@ -40,13 +40,13 @@ loop-less c = omega arith
 
 loop-again : tie.Need-loop-again Inv-loop μ-loop
 loop-again c = (
-  (cc),
+  c .before .before .put .kept .0 ∙ c .before .before .before .before .before .before .loop .inv .0,
   let l = c .before .before .before .before .before in
       copy-step _ _ _ _ _ _ _ _ _ (l .loop-test .taken) (c .before .before .before .at .ensures) (c .before .before .put .ensures) (l .before .loop .inv .1),
 )
 
 same-length : tie.Need-same-length Inv-loop μ-loop
-same-length c = (cc)
+same-length c = c .before .loop .inv .0
 
 returns : tie.Need-returns Inv-loop μ-loop
 returns c = search copy-end

@@ -37,7 +37,7 @@ loop-again c =
     (search note-length, note-step _ _ _ _ _ _ _ (turn .before .before .parts .ensures) (turn .loop-test .taken) done (turn .before .loop .inv .1))
 
 same-length : tie.Need-same-length Inv-loop μ-loop
-same-length c = (cc)
+same-length c = c .before .loop .inv .0
 
 returns : tie.Need-returns Inv-loop μ-loop
 returns c = search note-end

@@ -1,6 +1,6 @@
 -- `start_named` meets its contract. The loop's invariant: the clocks before c have their flags and starts, and the rest of the record is as it was.
 use Prim.Native.Nat.{_-_, _≤_}
-use mathlib.Core.Path.{_≡_, refl}
+use mathlib.Core.Path.{_≡_, refl, _∙_}
 use lib.ListN.{length}
 use borrow.Author.Needs.{needs}
 use Rattle.clocks.specs.Starting.{clocksStarted}
@@ -30,10 +30,10 @@ loop-less : tie.Need-loop-less Inv-loop μ-loop
 loop-less c = search needs
 
 loop-again : tie.Need-loop-again Inv-loop μ-loop
-loop-again c = ((cc), (search needs, search clocks-step))
+loop-again c = (c .before .before .start-clock .kept .0 ∙ c .before .before .before .before .before .loop .inv .0, (search needs, search clocks-step))
 
 same-length : tie.Need-same-length Inv-loop μ-loop
-same-length c = (cc)
+same-length c = c .before .loop .inv .0
 
 returns : tie.Need-returns Inv-loop μ-loop
 returns c = search clocks-end

@@ -1,4 +1,5 @@
 -- `examine_parts` meets its contract: one law of Refusals for each answer.
+use mathlib.Core.Path.{sym, _∙_}
 use mathlib.Core.List.{[]}
 use borrow.Author.Needs.{needs}
 use Rattle.program.proofs.Refusals.{kinds-refused, operands-refused, tree-refused, tree-stands, depth-passes, depth-refused}
@@ -36,13 +37,13 @@ same-length : tie.Need-same-length
 same-length c = search needs
 
 returns-4 : tie.Need-returns-4
-returns-4 c = depth-passes _ _ _ _ (c .before .before .before .before .before .before .before .before .before .before .before .kinds-known .ensures) (c .before .before .before .before .before .before .before .before .before .before .if1 .left) _ (c .before .before .before .before .before .before .before .before .before .operands-allowed .ensures) (c .before .before .before .before .before .before .before .before .if2 .left) _ (c .before .before .before .before .before .before .before .is-one-tree .ensures) (c .before .before .before .before .before .before .if3 .left) (c .enum-told .given .0 .0) _ (cc (c .before .before .before .before .walk-all .ensures .0)) (c .before .before .before .before .walk-all .ensures .1)
+returns-4 c = depth-passes _ _ _ _ (c .before .before .before .before .before .before .before .before .before .before .before .kinds-known .ensures) (c .before .before .before .before .before .before .before .before .before .before .if1 .left) _ (c .before .before .before .before .before .before .before .before .before .operands-allowed .ensures) (c .before .before .before .before .before .before .before .before .if2 .left) _ (c .before .before .before .before .before .before .before .is-one-tree .ensures) (c .before .before .before .before .before .before .if3 .left) (c .enum-told .given .0 .0) _ (sym (c .enum-told .given .1) ∙ c .before .before .before .before .walk-all .ensures .0) (c .before .before .before .before .walk-all .ensures .1)
 
 same-length-2 : tie.Need-same-length-2
 same-length-2 c = search needs
 
 returns-5 : tie.Need-returns-5
-returns-5 c = depth-refused _ _ _ _ (c .before .before .before .before .before .before .before .before .before .before .before .kinds-known .ensures) (c .before .before .before .before .before .before .before .before .before .before .if1 .left) _ (c .before .before .before .before .before .before .before .before .before .operands-allowed .ensures) (c .before .before .before .before .before .before .before .before .if2 .left) _ (c .before .before .before .before .before .before .before .is-one-tree .ensures) (c .before .before .before .before .before .before .if3 .left) _ (cc (c .before .before .before .before .walk-all .ensures .0))
+returns-5 c = depth-refused _ _ _ _ (c .before .before .before .before .before .before .before .before .before .before .before .kinds-known .ensures) (c .before .before .before .before .before .before .before .before .before .before .if1 .left) _ (c .before .before .before .before .before .before .before .before .before .operands-allowed .ensures) (c .before .before .before .before .before .before .before .before .if2 .left) _ (c .before .before .before .before .before .before .before .is-one-tree .ensures) (c .before .before .before .before .before .before .if3 .left) _ (sym (c .enum-told2 .given .1) ∙ c .before .before .before .before .walk-all .ensures .0)
 
 pub examine-parts-spec : {M : Type 1} → statement M
 examine-parts-spec =

@@ -1,12 +1,16 @@
 -- `rehearse_file` is safe: what is read lies within the buffer.
-use native.Mathlib.Omega.{arith}
-use lib.ListN.{length-take}
+use mathlib.Core.Path.{sym}
+use lib.Seq.{length-take-le}
+use Rattle.input.proofs.Brought.{whole-inside}
 use borrow.Author.Needs.{needs}
 use Rattle.rehearse.proofs.rehearse_file.Statement.{statement}
 use Rattle.rehearse.proofs.rehearse_file.Tie as tie
 
 open-read-requires : tie.Need-open-read-requires
 open-read-requires c κs = search needs
+
+is-open-requires : tie.Need-is-open-requires
+is-open-requires c κs = search needs
 
 fail-requires : tie.Need-fail-requires
 fail-requires c κs = search needs
@@ -23,14 +27,20 @@ read-whole-requires c κs = search needs
 close-requires : tie.Need-close-requires
 close-requires c κs = search needs
 
+enum-known-piece : tie.Need-enum-known-piece
+enum-known-piece c = search needs
+
 array-share-prefix-file : tie.Need-array-share-prefix-file
-array-share-prefix-file c = search needs
+array-share-prefix-file c = whole-inside _ _ _ _ (c .before .piece .given .1) (c .before .before .before .before .before .read-whole .ensures)
 
 slice-aggregate-rehearse-program : tie.Need-slice-aggregate-rehearse-program
-slice-aggregate-rehearse-program c = simp length-take (omega arith)
+slice-aggregate-rehearse-program c = sym (length-take-le _ _ (whole-inside _ _ _ _ (c .before .before .piece .given .1) (c .before .before .before .before .before .before .read-whole .ensures)))
 
 rehearse-program-requires : tie.Need-rehearse-program-requires
 rehearse-program-requires c κs = search needs
+
+enum-told : tie.Need-enum-told
+enum-told c = search needs
 
 returns-2 : tie.Need-returns-2
 returns-2 c = search needs
@@ -43,13 +53,16 @@ rehearse-file-spec =
     tie.close
     (tie.spec
     open-read-requires
+    is-open-requires
     fail-requires
     returns
     slice-aggregate-read-whole
     read-whole-requires
     close-requires
+    enum-known-piece
     array-share-prefix-file
     slice-aggregate-rehearse-program
     rehearse-program-requires
+    enum-told
     returns-2
     returns-3)

@@ -44,13 +44,13 @@ loop-less c = search needs
 
 loop-again : tie.Need-loop-again Inv-loop μ-loop
 loop-again c = (
-  (cc),
+  c .before .before .turn .kept .1 .0 ∙ c .before .before .before .before .before .loop .inv .0,
   let l = c .before .before .before .before in
       fresh-next _ _ _ _ _ _ _ _ _ (l .loop-test .taken) (c .before .before .turn .ensures) (l .before .loop .inv .1),
 )
 
 same-length : tie.Need-same-length Inv-loop μ-loop
-same-length c = (cc)
+same-length c = c .before .loop .inv .0 ∙ c .before .before .before .before .before .put .kept .0
 
 returns : tie.Need-returns Inv-loop μ-loop
 returns c =

@@ -1,7 +1,7 @@
 -- `raise_all` meets its contract: at each turn, the values of the leaves that are left, raised onto the bytes as they are now, give the whole.
 use borrow.Author.Needs.{needs}
 use Prim.Native.Nat.{_+_, _-_}
-use mathlib.Core.Path.{_≡_, refl}
+use mathlib.Core.Path.{_≡_, refl, _∙_}
 use lib.ListN.{length}
 use Rattle.base.specs.Lists.{bytesAt}
 use Rattle.meaning.specs.Record.{marksPlace, marksIn}
@@ -34,14 +34,14 @@ loop-less c = search needs
 
 loop-again : tie.Need-loop-again Inv-loop μ-loop
 loop-again c = (
-  (cc),
+  c .before .before .raise-part .kept .1 .1 .0 ∙ c .before .before .before .before .before .loop .inv .0,
   let a = c .before .before in
       let l = a .before .before in
       raise-step _ _ _ _ _ _ (l .before .before .parts .ensures) _ (l .loop-test .taken) (a .raise-part .ensures) (l .before .loop .inv .1),
 )
 
 same-length : tie.Need-same-length Inv-loop μ-loop
-same-length c = (cc)
+same-length c = c .before .loop .inv .0
 
 returns : tie.Need-returns Inv-loop μ-loop
 returns c = search raise-end

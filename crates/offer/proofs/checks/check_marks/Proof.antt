@@ -1,7 +1,7 @@
 -- `check_marks` meets its contract: at each turn, what the parts that are left do to the record as it is now gives the whole.
 use borrow.Author.Needs.{needs}
 use Prim.Native.Nat.{_-_}
-use mathlib.Core.Path.{_≡_, refl}
+use mathlib.Core.Path.{_≡_, refl, _∙_}
 use lib.ListN.{length}
 use lib.Seq.{sets}
 use Rattle.meaning.specs.Record.{marksPlace}
@@ -34,7 +34,7 @@ loop-less c = search needs
 
 loop-again : tie.Need-loop-again Inv-loop μ-loop
 loop-again c = (
-  (cc),
+  c .before .before .turn .kept .1 .0 ∙ c .before .before .before .before .before .loop .inv .0,
   let a = c .before .before in
       let l = a .before .before in
       let f = l .before .before in
@@ -42,7 +42,7 @@ loop-again c = (
 )
 
 same-length : tie.Need-same-length Inv-loop μ-loop
-same-length c = (cc)
+same-length c = c .before .loop .inv .0
 
 returns : tie.Need-returns Inv-loop μ-loop
 returns c = search checked-end

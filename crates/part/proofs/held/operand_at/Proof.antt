@@ -1,4 +1,5 @@
 -- `operand_at` meets its contract: each byte is read where it stands.
+use mathlib.Core.Path.{refl}
 use borrow.Author.Needs.{needs}
 use Rattle.part.proofs.held.operand_at.Statement.{statement}
 use Rattle.part.proofs.held.operand_at.Tie as tie
@@ -25,7 +26,7 @@ at-requires-4 : tie.Need-at-requires-4
 at-requires-4 c κs = search needs
 
 returns : tie.Need-returns
-returns c = cc
+returns c = rw (c .at4 .ensures, c .before .at3 .ensures, c .before .before .at2 .ensures, c .before .before .before .at .ensures) refl
 
 pub operand-at-spec : {M : Type 1} → statement M
 operand-at-spec =

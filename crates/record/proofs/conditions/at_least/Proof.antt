@@ -1,4 +1,5 @@
 -- `at_least` meets its contract: the value is compared with what the clock reads, as numbers of 32 bits.
+use mathlib.Core.Path.{refl}
 use borrow.Author.Needs.{needs}
 use Rattle.record.proofs.conditions.at_least.Statement.{statement}
 use Rattle.record.proofs.conditions.at_least.Tie as tie
@@ -13,7 +14,7 @@ reading-requires : tie.Need-reading-requires
 reading-requires c κs = search needs
 
 returns : tie.Need-returns
-returns c = cc
+returns c = rw (c .reading .ensures, c .before .value .ensures) refl
 
 pub at-least-spec : {M : Type 1} → statement M
 at-least-spec = tie.close (tie.spec value-requires cast-result reading-requires returns)

@@ -1,4 +1,5 @@
 -- `below` meets its contract: the value is compared with what the clock reads, as numbers of 32 bits.
+use mathlib.Core.Path.{refl}
 use borrow.Author.Needs.{needs}
 use Rattle.record.proofs.conditions.below.Statement.{statement}
 use Rattle.record.proofs.conditions.below.Tie as tie
@@ -13,7 +14,7 @@ cast-result : tie.Need-cast-result
 cast-result c = search needs
 
 returns : tie.Need-returns
-returns c = cc
+returns c = rw (c .value .ensures, c .before .reading .ensures) refl
 
 pub below-spec : {M : Type 1} → statement M
 below-spec = tie.close (tie.spec reading-requires value-requires cast-result returns)

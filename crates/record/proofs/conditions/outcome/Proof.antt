@@ -1,4 +1,5 @@
 -- `outcome` meets its contract: each test has its arm, and no other byte is a test.
+use mathlib.Core.Path.{refl}
 use borrow.Author.Needs.{needs}
 use Rattle.meaning.specs.Kinds.{testOf}
 use Rattle.meaning.specs.Conditions.{outcome}
@@ -33,11 +34,11 @@ on-clock-requires-2 c κs = search needs
 
 returns : tie.Need-returns
 unfolding outcome testOf
-returns c = rw (c .before .before .match .keys1) (cc)
+returns c = rw (c .before .before .match .keys1, c .decided .ensures, c .before .reached .ensures) refl
 
 returns-2 : tie.Need-returns-2
 unfolding outcome testOf
-returns-2 c = rw (c .before .before .match .keys2) (cc)
+returns-2 c = rw (c .before .before .match .keys2, c .decided2 .ensures, c .before .reached2 .ensures) refl
 
 returns-3 : tie.Need-returns-3
 returns-3 c = search judged-at-least

@@ -1,4 +1,5 @@
 -- `satisfied` meets its contract: it asks the outcome, as the definition does.
+use mathlib.Core.Path.{refl}
 use borrow.Author.Needs.{needs}
 use Rattle.meaning.specs.Conditions.{satisfied}
 use Rattle.record.proofs.conditions.satisfied.Statement.{statement}
@@ -12,7 +13,7 @@ is-satisfied-requires c κs = search needs
 
 returns : tie.Need-returns
 unfolding satisfied
-returns c = cc
+returns c = rw (c .is-satisfied .ensures, c .before .outcome .ensures) refl
 
 pub satisfied-spec : {M : Type 1} → statement M
 satisfied-spec = tie.close (tie.spec outcome-requires is-satisfied-requires returns)

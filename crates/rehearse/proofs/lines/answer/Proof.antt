@@ -1,5 +1,5 @@
 -- `answer` meets its contract: the line is answered by `answer_line`, with the next number.
-use Rattle.rehearse.proofs.Held.{line-goes}
+use Rattle.rehearse.proofs.Turns.{line-goes}
 use borrow.Author.Needs.{needs}
 use Rattle.rehearse.proofs.lines.answer.Statement.{statement}
 use Rattle.rehearse.proofs.lines.answer.Tie as tie

@@ -1,6 +1,7 @@
--- `read_on` keeps the bytes that are still to be answered within the buffer.
+-- `read_on` meets its contract: a read that brings nothing ends the input, and what stands before it is the last line.
 use native.Mathlib.Omega.{arith}
 use lib.ListN.{length-take}
+use Rattle.rehearse.proofs.Turns.{on-failed, on-brought, on-ended}
 use borrow.Author.Needs.{needs}
 use Rattle.rehearse.proofs.lines.read_on.Statement.{statement}
 use Rattle.rehearse.proofs.lines.read_on.Tie as tie
@@ -11,17 +12,35 @@ slice-aggregate-read-piece c = search needs
 read-piece-requires : tie.Need-read-piece-requires
 read-piece-requires c κs = search needs
 
+enum-known-piece : tie.Need-enum-known-piece
+enum-known-piece c = search needs
+
+enum-told : tie.Need-enum-told
+enum-told c = search needs
+
+read-to-requires : tie.Need-read-to-requires
+read-to-requires c κs = search needs
+
 same-length : tie.Need-same-length
 same-length c = search needs
 
 returns : tie.Need-returns
-returns c = search needs
+returns c = on-failed _ _ _ _ _ _ _ _ (c .before .before .before .before .before .read-piece .ensures) _ (c .before .enum-told .given .1) (c .read-to .ensures)
+
+read-to-requires-2 : tie.Need-read-to-requires-2
+read-to-requires-2 c κs = search needs
+
+same-length-2 : tie.Need-same-length-2
+same-length-2 c = search needs
+
+returns-2 : tie.Need-returns-2
+returns-2 c = on-brought _ _ _ _ _ _ _ _ (c .before .before .before .before .before .before .before .read-piece .ensures) _ _ (c .before .before .before .piece .given .1) (c .before .if1 .taken) (c .read-to2 .ensures)
 
 slice-reshare-prefix-answer : tie.Need-slice-reshare-prefix-answer
 slice-reshare-prefix-answer c = search needs
 
 slice-aggregate-answer : tie.Need-slice-aggregate-answer
-slice-aggregate-answer c = simp length-take (omega arith)
+slice-aggregate-answer c = simp length-take (omega (arith, c .before .before .before .before .before .before .before .before .read-piece .ensures .length-is))
 
 answer-requires : tie.Need-answer-requires
 answer-requires c κs = search needs
@@ -29,14 +48,14 @@ answer-requires c κs = search needs
 ended-requires : tie.Need-ended-requires
 ended-requires c κs = search needs
 
-same-length-2 : tie.Need-same-length-2
-same-length-2 c = search needs
-
 same-length-3 : tie.Need-same-length-3
 same-length-3 c = search needs
 
-returns-2 : tie.Need-returns-2
-returns-2 c = search needs
+same-length-4 : tie.Need-same-length-4
+same-length-4 c = search needs
+
+returns-3 : tie.Need-returns-3
+returns-3 c = on-ended _ _ _ _ _ _ _ _ (c .before .before .before .before .before .before .before .before .before .before .before .before .read-piece .ensures) _ _ _ _ (c .before .before .before .before .before .before .before .before .piece .given .1) (c .before .before .before .before .before .before .if1 .left) (c .before .before .before .before .before .before .before .before .before .before .before .before .before .before .before .before .before .before .pre) (c .before .before .before .answer .ensures) (c .ended .ensures)
 
 pub read-on-spec : {M : Type 1} → statement M
 read-on-spec =
@@ -44,12 +63,18 @@ read-on-spec =
     (tie.spec
     slice-aggregate-read-piece
     read-piece-requires
+    enum-known-piece
+    enum-told
+    read-to-requires
     same-length
     returns
+    read-to-requires-2
+    same-length-2
+    returns-2
     slice-reshare-prefix-answer
     slice-aggregate-answer
     answer-requires
     ended-requires
-    same-length-2
     same-length-3
-    returns-2)
+    same-length-4
+    returns-3)

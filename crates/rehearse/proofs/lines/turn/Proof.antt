@@ -1,6 +1,5 @@
--- `turn` meets its contract: where the next line ends in the buffer it is answered; else the line is too long, or more is read.
-use native.Mathlib.Omega.{arith}
-use Rattle.rehearse.proofs.Held.{line-held, line-taken, none-taken}
+-- `turn` meets its contract: the next line is answered where it ends in the buffer; else the line is too long, or more is read.
+use Rattle.rehearse.proofs.Turns.{line-held, line-taken, full-taken, on-taken}
 use borrow.Author.Needs.{needs}
 use Rattle.rehearse.proofs.lines.turn.Statement.{statement}
 use Rattle.rehearse.proofs.lines.turn.Tie as tie
@@ -30,7 +29,7 @@ same-length-2 : tie.Need-same-length-2
 same-length-2 c = search needs
 
 returns : tie.Need-returns
-returns c = (omega arith, line-taken _ _ _ _ _ _ _ _ (c .before .before .before .before .before .before .before .line-end .ensures) (c .before .before .answer .ensures))
+returns c = line-taken _ _ _ _ _ _ _ _ (c .before .before .before .before .before .before .before .line-end .ensures) (c .before .before .before .before .before .before .if1 .taken) (c .before .before .answer .ensures)
 
 sub-if2 : tie.Need-sub-if2
 sub-if2 c = search needs
@@ -54,7 +53,7 @@ same-length-4 : tie.Need-same-length-4
 same-length-4 c = search needs
 
 returns-2 : tie.Need-returns-2
-returns-2 c = (omega arith, none-taken _ _ _ _ _ (c .before .before .before .before .before .before .before .before .before .before .before .before .before .args .s) _ _ (c .before .before .before .before .before .before .before .before .line-end .ensures) (c .before .before .before .before .before .before .before .if1 .left))
+returns-2 c = full-taken _ _ _ _ (c .before .before .before .before .before .before .before .before .before .before .before .before .before .args .s) _ _ _ (c .before .before .before .before .before .before .before .before .line-end .ensures) (c .before .before .before .before .before .before .before .if1 .left) (c .before .before .before .before .before .before .if2 .taken) (c .before .before .answer2 .ensures)
 
 shift-requires : tie.Need-shift-requires
 shift-requires c κs = search needs
@@ -72,7 +71,7 @@ same-length-6 : tie.Need-same-length-6
 same-length-6 c = search needs
 
 returns-3 : tie.Need-returns-3
-returns-3 c = (omega arith, none-taken _ _ _ _ _ (c .before .before .before .before .before .before .before .before .before .before .before .before .before .before .before .before .before .before .args .s) _ _ (c .before .before .before .before .before .before .before .before .before .before .before .before .before .line-end .ensures) (c .before .before .before .before .before .before .before .before .before .before .before .before .if1 .left))
+returns-3 c = on-taken _ _ _ _ (c .before .before .before .before .before .before .before .before .before .before .before .before .before .before .before .before .before .before .args .s) _ _ _ (c .before .before .before .before .before .before .before .before .before .before .before .before .before .line-end .ensures) _ _ (c .before .before .before .before .before .before .before .before .before .before .before .before .if1 .left) (c .before .before .before .before .before .before .before .before .before .before .before .if2 .left) (c .before .before .before .before .before .before .before .before .before .before .before .before .before .before .before .before .before .before .pre .1) (c .before .before .before .before .before .before .before .before .before .shift .ensures) (c .before .before .before .before .read-on .ensures)
 
 pub turn-spec : {M : Type 1} → statement M
 turn-spec =

@@ -1,7 +1,7 @@
 -- `write_line` meets its contract. The loop's invariant: the numbers still to be written, written onto what is there now, give the line.
 use Prim.Native.Nat.{_-_}
 use native.Mathlib.Omega.{arith}
-use mathlib.Core.Path.{_≡_, refl}
+use mathlib.Core.Path.{_≡_, refl, _∙_}
 use lib.ListN.{length, drop}
 use Rattle.report.specs.Listing.{line}
 use Rattle.text.proofs.Texts.{Writing}
@@ -37,10 +37,10 @@ loop-less : tie.Need-loop-less Inv-loop μ-loop
 loop-less c = omega arith
 
 loop-again : tie.Need-loop-again Inv-loop μ-loop
-loop-again c = ((cc), search line-step)
+loop-again c = (c .before .before .write-item .kept .1 .1 .0 ∙ c .before .before .before .before .before .before .loop .inv .0, search line-step)
 
 same-length : tie.Need-same-length Inv-loop μ-loop
-same-length c = (cc)
+same-length c = c .before .loop .inv .0
 
 returns : tie.Need-returns Inv-loop μ-loop
 returns c = search line-end

@@ -1,6 +1,6 @@
 -- `write_rows` meets its contract. The loop's invariant: the rows still to be stored, stored onto what is there now, give the whole.
 use Prim.Native.Nat.{_+_, _*_, _-_}
-use mathlib.Core.Path.{_≡_, refl}
+use mathlib.Core.Path.{_≡_, refl, _∙_}
 use borrow.Author.Needs.{needs}
 use native.Mathlib.Nat.{sub-zero}
 use native.Mathlib.Omega.{arith}
@@ -37,10 +37,10 @@ loop-less c = omega arith
 loop-again : tie.Need-loop-again Inv-loop μ-loop
 loop-again c =
     let l = c .before .before .before .before in
-    ((cc), rows-step _ _ _ _ _ _ _ _ (l .loop-test .taken) (c .before .before .write-row .ensures) (l .before .loop .inv .1))
+    (c .before .before .write-row .kept .1 .1 .1 .0 ∙ l .before .loop .inv .0, rows-step _ _ _ _ _ _ _ _ (l .loop-test .taken) (c .before .before .write-row .ensures) (l .before .loop .inv .1))
 
 same-length : tie.Need-same-length Inv-loop μ-loop
-same-length c = (cc)
+same-length c = c .before .loop .inv .0
 
 returns : tie.Need-returns Inv-loop μ-loop
 returns c = search rows-end

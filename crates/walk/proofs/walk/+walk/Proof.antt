@@ -2,10 +2,10 @@
 use Prim.Native.Nat.{ℕ, _-_, _<_}
 use native.Mathlib.Omega.{arith}
 use borrow.Author.Needs.{needs}
-use mathlib.Core.Path.{_≡_, refl}
+use mathlib.Core.Path.{_≡_, refl, sym, _∙_, ap}
 use lib.ListN.{length}
 use Rattle.meaning.specs.Kinds.{kindOf}
-use Rattle.meaning.specs.Program.{parts, entries}
+use Rattle.meaning.specs.Program.{parts, entries, arityOf}
 use Rattle.walk.specs.Walk.{partAt, reached}
 use Rattle.walk.proofs.Standing.{stands-below}
 use Rattle.walk.proofs.Reaching.{Reaching, reached-none, reaching-first, reaching-stands, reaching-more, reaching-deep, reaching-end}
@@ -59,7 +59,7 @@ walk-loop-holds : (t : ℕ) → walk-lts.Need-loop-holds (callees t) (walk-at t)
 walk-loop-holds t c = (
   refl,
   (
-    reaching-first _ _ _ _ _ (c .before .before .before .before .before .pre .1) (c .before .before .if1 .left) (cc),
+    reaching-first _ _ _ _ _ (c .before .before .before .before .before .pre .1) (c .before .before .if1 .left) (c .arity .ensures ∙ ap arityOf (c .before .entry-at .ensures)),
     linking-first _ _ _ _ _ _ (c .before .before .before .before .before .pre .1) (c .before .entry-at .ensures) (c .arity .ensures),
   ),
 )
@@ -83,7 +83,7 @@ walk-same-length t c = omega (arith, c .before .before .before .before .before .
 
 walk-returns-2 : (t : ℕ) → walk-lts.Need-returns-2 (callees t) (walk-at t) walk.Post walk-Inv-loop walk-μ-loop
 walk-returns-2 t c =
-    let deep = reaching-deep _ _ _ _ _ _ (c .before .before .before .before .before .before .before .loop .inv .1 .0) (c .before .before .before .before .before .before .loop-test .taken) (cc (c .before .before .before .before .walk .ensures .0)) in
+    let deep = reaching-deep _ _ _ _ _ _ (c .before .before .before .before .before .before .before .loop .inv .1 .0) (c .before .before .before .before .before .before .loop-test .taken) (sym (c .enum-told .given .1) ∙ c .before .before .before .before .walk .ensures .0) in
     (deep, deep-unlinked _ _ _ _ _ deep)
 
 walk-next-of-requires : (t : ℕ) → walk-lts.Need-next-of-requires (callees t) (walk-at t) walk.Post walk-Inv-loop walk-μ-loop
@@ -102,9 +102,9 @@ walk-loop-again : (t : ℕ) → walk-lts.Need-loop-again (callees t) (walk-at t)
 walk-loop-again t c = (
   omega (arith, c .before .before .before .before .before .before .before .before .before .before .before .before .before .loop .inv .0, c .before .before .before .before .before .before .before .before .before .before .walk .kept, c .before .before .put-links .kept),
   (
-    reaching-more _ _ _ _ _ _ (c .before .before .before .before .before .before .before .before .before .before .before .before .before .loop .inv .1 .0) (c .before .before .before .before .before .before .before .before .before .before .before .before .loop-test .taken) _ (cc (c .before .before .before .before .before .before .before .before .before .before .walk .ensures .0)),
+    reaching-more _ _ _ _ _ _ (c .before .before .before .before .before .before .before .before .before .before .before .before .before .loop .inv .1 .0) (c .before .before .before .before .before .before .before .before .before .before .before .before .loop-test .taken) _ (sym (c .before .before .before .before .before .before .e .given .1) ∙ c .before .before .before .before .before .before .before .before .before .before .walk .ensures .0),
     linking-child _ _ _ _ _ _ _ _ (c .before .before .before .before .before .before .before .before .before .before .before .before .before .loop .inv .1 .1) (c .before .before .before .before .before .before .before .before .before .before .before .before .loop-test .taken) _ _ _ _ _ _
-        (cc (c .before .before .before .before .before .before .before .before .before .before .walk .ensures .0))
+        (sym (c .before .before .before .before .before .before .e .given .1) ∙ c .before .before .before .before .before .before .before .before .before .before .walk .ensures .0)
         (c .before .before .before .before .before .before .before .before .before .before .walk .ensures .1)
         refl
         (c .before .before .before .before .next-of .ensures)

@@ -1,7 +1,7 @@
 -- `read_pairs` meets its contract: at each turn what is left from place i on completes the bytes, their number and the verdict.
 use borrow.Author.Needs.{needs}
 use Prim.Native.Nat.{_-_}
-use mathlib.Core.Path.{_≡_}
+use mathlib.Core.Path.{_≡_, _∙_}
 use lib.ListN.{length}
 use Rattle.words.proofs.Counted.{Reading, reading-starts, reading-space, fault-told, fault-stored, reading-pair, whole-told, whole-stored}
 use Rattle.words.proofs.Digits.{pair-taken}
@@ -60,7 +60,7 @@ loop-less-2 : tie.Need-loop-less-2 Inv-loop μ-loop
 loop-less-2 c = search needs
 
 loop-again-2 : tie.Need-loop-again-2 Inv-loop μ-loop
-loop-again-2 c = ((cc), search reading-pair)
+loop-again-2 c = (c .before .before .put .kept .0 ∙ c .before .before .before .before .before .before .before .before .before .before .before .loop .inv .0, search reading-pair)
 
 same-length-2 : tie.Need-same-length-2 Inv-loop μ-loop
 same-length-2 c = search needs
