@@ -19,7 +19,7 @@ pub fn is_open(fd: i32) -> bool
 }
 
 // What a read of `got` comes to, into the room after the first n bytes.
-pub fn piece_of(got: isize, n: usize, room: &[u8]) -> Piece
+fn piece_of(got: isize, n: usize, room: &[u8]) -> Piece
     requires { ⌜ n + length (now room) < 2 ^ 64 ⌝ }
     ensures { λ p. ⌜ p ≡ pieceOf got n (length (now (room .entry))) ⌝ }
 {

@@ -5,8 +5,8 @@ use mathlib.Core.Path.{_≡_, refl}
 use mathlib.Core.Bool.{Bool, true, false, not, _&&_}
 use mathlib.Core.List.{List}
 use mathlib.Core.Logic.{inl, inr}
-use lib.ListN.{length, take, drop}
-use lib.Seq.{sets, length-sets}
+use lib.ListN.{length, take}
+use lib.Seq.{length-sets}
 use Rattle.base.specs.Lists.{bytesAt}
 use Rattle.words.proofs.Leading.{place-within}
 use Rattle.calls.specs.Places.{lineEnd}
@@ -17,7 +17,7 @@ use Rattle.input.specs.declared.Piece.{Piece}
 use Rattle.input.specs.declared.Piece.the-variants.{Failed, Held}
 use Rattle.rehearse.specs.declared.lines.Stand.{Stand}
 use Rattle.input.specs.Reading.{Reads}
-use Rattle.rehearse.specs.Standing.{starting, nextEnd, upTo, readTo, afterLast, afterLine, Goes, ReadsOn, Takes, Ran, Runs, maxTurns}
+use Rattle.rehearse.specs.Standing.{moved, nextEnd, upTo, readTo, afterLast, Goes, ReadsOn, Takes, Ran, Runs, maxTurns}
 use Rattle.rehearse.specs.Standing as standing
 use Rattle.input.proofs.Brought.{read-inside}
 
@@ -50,9 +50,9 @@ module _ (t r : List ℕ) (asked : Bool) (input : List ℕ) (s : Stand) (r' : Li
   pub full-taken : s .held ≤ end → s .held - s .from ≡ length input → Goes t r asked (upTo input s (s .held)) s (s .held) r' e → Takes t r asked input s r' input e
   full-taken h l g = standing.full (rw is at h) l g refl
 
-  pub on-taken : (moved input' : List ℕ) → s .held ≤ end → (s .held - s .from ≡ length input → ⊥) → s .held ≤ length input → moved ≡ sets input 0 (bytesAt input (s .from) (s .held - s .from)) → ReadsOn t r asked moved s (s .held - s .from) r' input' e
+  pub on-taken : (shifted input' : List ℕ) → s .held ≤ end → (s .held - s .from ≡ length input → ⊥) → s .held ≤ length input → shifted ≡ moved input s → ReadsOn t r asked shifted s (s .held - s .from) r' input' e
       → Takes t r asked input s r' input' e
-  on-taken moved input' h other inside m on = standing.on (rw is at h) (omega (arith, other, inside)) (rw m at on)
+  on-taken shifted input' h other inside m on = standing.on (rw is at h) (omega (arith, other, inside)) (rw m at on)
 
 -- Once a rehearsal has stood within the buffer, it does after each turn
 module _ (t r : List ℕ) (asked : Bool) where

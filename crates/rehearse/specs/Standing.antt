@@ -47,12 +47,16 @@ pub data ReadsOn (t r : List ℕ) (asked : Bool) (input : List ℕ) (s : Stand) 
   brought : (k : ℕ) → Reads input n (Held k) input' → n < k → r' ≡ r → e ≡ readTo s k true → ReadsOn t r asked input s n r' input' e
   ended : (last : Stand) → Reads input n (Held n) input' → Goes t r asked (take n input') s 0 r' last → e ≡ afterLast last → ReadsOn t r asked input s n r' input' e
 
--- where the next line ends in the buffer, and the bytes that are still to be answered
+-- where the next line ends in the buffer, and the bytes up to a place that are still to be answered
 abbrev pub nextEnd : List ℕ → Stand → ℕ
 nextEnd input s = lineEnd input (s .from) (s .held)
 
 abbrev pub upTo : List ℕ → Stand → ℕ → List ℕ
 upTo input s end = take (end - s .from) (drop (s .from) input)
+
+-- the buffer with these bytes moved to its beginning
+abbrev pub moved : List ℕ → Stand → List ℕ
+moved input s = sets input 0 (bytesAt input (s .from) (s .held - s .from))
 
 -- One turn. A line that ends in the buffer is answered, and the input goes on after its line feed. Where none ends there, a buffer without room for more holds a line that is too long; else what is still to be answered moves to the buffer's beginning, and more is read
 pub data Takes (t r : List ℕ) (asked : Bool) (input : List ℕ) (s : Stand) (r' input' : List ℕ) (e : Stand) : Type 0 where
@@ -60,7 +64,7 @@ pub data Takes (t r : List ℕ) (asked : Bool) (input : List ℕ) (s : Stand) (r
   full : s .held ≤ nextEnd input s → s .held - s .from ≡ length input → Goes t r asked (upTo input s (s .held)) s (s .held) r' e → input' ≡ input
       → Takes t r asked input s r' input' e
   on : s .held ≤ nextEnd input s → s .held - s .from < length input
-      → ReadsOn t r asked (sets input 0 (bytesAt input (s .from) (s .held - s .from))) s (s .held - s .from) r' input' e
+      → ReadsOn t r asked (moved input s) s (s .held - s .from) r' input' e
       → Takes t r asked input s r' input' e
 
 -- So many turns from the start, each while the run goes on

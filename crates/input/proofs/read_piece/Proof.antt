@@ -1,5 +1,4 @@
 -- `read_piece` meets its contract: what the read brings stands after the first n bytes.
-use mathlib.Core.Path.{refl}
 use Rattle.input.proofs.Brought.{read-brings}
 use borrow.Author.Needs.{needs}
 use Rattle.input.proofs.read_piece.Statement.{statement}
