@@ -13,6 +13,7 @@ use borrow.Author.Tests.{le-leb, lt-leb, eqb-true}
 use Rattle.base.specs.Lists.{all, flat, bytesAt}
 use Rattle.base.proofs.Lists.{and-left, and-right, all-append, flat-append}
 use Rattle.base.proofs.Stores.{length-bytes, getD-bytes, drop-bytes, bytes-sets}
+use Rattle.meaning.proofs.Files.{bytes-append}
 use Rattle.words.specs.Words.{isOther, leading}
 use Rattle.words.specs.Places.{place}
 use Rattle.words.proofs.Leading.{leading-few, leading-passes, leading-stops}
@@ -68,10 +69,6 @@ take-bytes : (s : List ℕ) (k n : ℕ) → k + n ≤ length s → take n (drop 
 take-bytes s k n h =
     rw (drop-bytes s k n h) (ap (λ (m : ℕ). take m (bytesAt s k n ++ drop (k + n) s)) (sym (length-bytes s k n)) ∙ take-append-seam (bytesAt s k n) (drop (k + n) s))
 
-bytes-split : (s : List ℕ) (i m n : ℕ) → bytesAt s i (m + n) ≡ bytesAt s i m ++ bytesAt s (i + m) n
-bytes-split s i zero n = rw (zero-add, add-zero) refl
-bytes-split s i (suc m) n = rw (suc-add, add-suc) (ap (λ (l : List ℕ). getD s i 0 ∷ l) (bytes-split s (suc i) m n ∙ rw suc-add refl))
-
 all-bytes : (f : ℕ → Bool) (s : List ℕ) (i n : ℕ) → ((j : ℕ) → j < n → f (getD s (i + j) 0) ≡ true) → all f (bytesAt s i n) ≡ true
 all-bytes f s i zero h = refl
 all-bytes f s i (suc n) h =
@@ -122,7 +119,7 @@ module _ (input : List ℕ) (s : Stand) (h : (s .from ≤ s .held) × (s .held �
     pending-splits =
         let whole : s .held - s .from ≡ size + suc (s .held - (nextEnd input s + 1)) = omega (arith, next-is, l) in
         let place-is : s .from + size ≡ nextEnd input s = omega (arith, next-is) in
-        ap (λ (n : ℕ). bytesAt input (s .from) n) whole ∙ bytes-split input (s .from) size (suc (s .held - (nextEnd input s + 1))) ∙
+        ap (λ (n : ℕ). bytesAt input (s .from) n) whole ∙ bytes-append input (s .from) size (suc (s .held - (nextEnd input s + 1))) ∙
         rw (line-bytes, place-is, line-feed, add-one (nextEnd input s), append-assoc) refl
 
 -- A line that fills a buffer longer than any line ends the run
@@ -174,7 +171,7 @@ module _ (input : List ℕ) (s : Stand) (h : (s .from ≤ s .held) × (s .held �
     brought-pending : (k : ℕ) → n ≤ k → k ≤ length input' → bytesAt input' 0 k ≡ pending input s ++ take (k - n) (drop n input')
     brought-pending k some most =
         let whole : k ≡ n + (k - n) = omega arith in
-        ap (λ (m : ℕ). bytesAt input' 0 m) whole ∙ bytes-split input' 0 n (k - n) ∙
+        ap (λ (m : ℕ). bytesAt input' 0 m) whole ∙ bytes-append input' 0 n (k - n) ∙
         rw (zero-add, ← (take-bytes input' 0 n (omega (arith, long-enough))), kept-pending, ← (take-bytes input' n (k - n) (omega arith))) refl
 
 -- A read more, and a turn more
