@@ -21,6 +21,9 @@ use table::Table;
 
 pub use table::{compile, decompile};
 
+/// A record without further bytes.
+type Record = [u8; RECORD_LEN];
+
 /// The marks of all the parts that a program can have.
 type Marks = [u8; MAX_PARTS];
 
@@ -32,38 +35,40 @@ pub fn begin(table: &[u8], estimate: &[u8], record: &mut [u8]) -> u32 {
     if !estimate_allowed(estimate, &table) {
         return ESTIMATE_NOT_ALLOWED;
     }
-    if record.len() < RECORD_LEN {
+    let Some(record) = record.first_chunk_mut::<RECORD_LEN>() else {
         return OUTPUT_TOO_SHORT;
-    }
-    record[..RECORD_LEN].fill(0);
+    };
+    record.fill(0);
     record[ESTIMATE..ESTIMATE + estimate.len()].copy_from_slice(estimate);
-    table.initialise(0, &mut record[MARKS..RECORD_LEN]);
+    table.initialise(0, &mut record[MARKS..]);
     0
 }
 
 /// Offers the goals of a cycle: the refusal, or 256 and the contested variable that is named.
 pub fn offer(table: &[u8], record: &mut [u8], time: u32, goals: &mut [u8]) -> u32 {
-    let table = match examine(table, record, WAITING) {
-        Ok(table) => table,
+    let (table, record) = match examine(table, record, WAITING) {
+        Ok(run) => run,
         Err(refusal) => return refusal,
     };
     if time < time_at(record, TIME) {
         return TIME_BEFORE_LAST;
     }
-    if goals.len() < table.sizes.variables {
+    let Some(goals) = goals.get_mut(..table.sizes.variables) else {
         return OUTPUT_TOO_SHORT;
-    }
+    };
     record[PHASE] = OFFERED;
     record[TIME..TIME + TIME_LEN].copy_from_slice(&time.to_le_bytes());
-    table.drop_violated(record);
-    let named = table.write_goals(&record[MARKS..], &mut goals[..table.sizes.variables]);
+    table.write_goals(record, goals);
+    // The lowest contested variable is named.
+    let contested = goals.iter().position(|&byte| byte == CONTESTED);
+    let named = contested.map_or(NONE_CONTESTED, |variable| variable as u8);
     ACCEPTED + u32::from(named)
 }
 
 /// Settles a cycle: the refusal, or 256 while the run goes on and 257 when it has finished.
 pub fn settle(table: &[u8], record: &mut [u8], estimate: &[u8]) -> u32 {
-    let table = match examine(table, record, OFFERED) {
-        Ok(table) => table,
+    let (table, record) = match examine(table, record, OFFERED) {
+        Ok(run) => run,
         Err(refusal) => return refusal,
     };
     if !estimate_allowed(estimate, &table) {
@@ -77,7 +82,7 @@ pub fn settle(table: &[u8], record: &mut [u8], estimate: &[u8]) -> u32 {
     table.start_clocks(record);
     record[PHASE] = if finished { FINISHED } else { WAITING };
     record[ESTIMATE..ESTIMATE + estimate.len()].copy_from_slice(estimate);
-    record[MARKS..RECORD_LEN].copy_from_slice(&after);
+    record[MARKS..].copy_from_slice(&after);
     if finished {
         JUST_FINISHED
     } else {
@@ -85,10 +90,15 @@ pub fn settle(table: &[u8], record: &mut [u8], estimate: &[u8]) -> u32 {
     }
 }
 
-/// The table of a run that goes on and is in this phase, or the refusal: the tests that an offer and
-/// a settling begin with.
-fn examine<'a>(table: &'a [u8], record: &[u8], phase: u8) -> Result<Table<'a>, u32> {
+/// The table and the record of a run that goes on and is in this phase, or the refusal: the tests
+/// that an offer and a settling begin with.
+fn examine<'a, 'b>(
+    table: &'a [u8],
+    record: &'b mut [u8],
+    phase: u8,
+) -> Result<(Table<'a>, &'b mut Record), u32> {
     let table = Table::read(table).ok_or(NOT_A_TABLE)?;
+    let record = record.first_chunk_mut().ok_or(RECORD_NOT_ALLOWED)?;
     if !record_allowed(record, &table) {
         return Err(RECORD_NOT_ALLOWED);
     }
@@ -98,7 +108,7 @@ fn examine<'a>(table: &'a [u8], record: &[u8], phase: u8) -> Result<Table<'a>, u
     if record[PHASE] != phase {
         return Err(OUT_OF_TURN);
     }
-    Ok(table)
+    Ok((table, record))
 }
 
 /// What a condition comes to.
@@ -127,13 +137,11 @@ impl Table<'_> {
 
     /// Whether nothing is marked inside a part.
     fn hollow(&self, part: usize, marks: &[u8]) -> bool {
-        marks[part + 1..self.end(part)]
-            .iter()
-            .all(|&mark| mark == 0)
+        all_zero(&marks[part + 1..self.end(part)])
     }
 
     /// What a part's condition comes to by this estimate and the record's time and clocks.
-    fn outcome(&self, part: usize, record: &[u8], estimate: &[u8]) -> Outcome {
+    fn outcome(&self, part: usize, record: &Record, estimate: &[u8]) -> Outcome {
         let [b0, b1, b2, b3] = self.operand(part);
         let subject = usize::from(b1);
         let value = u16::from_le_bytes([b2, b3]);
@@ -151,38 +159,37 @@ impl Table<'_> {
         }
     }
 
-    /// From the root down, a marked MAINTAIN whose condition is violated loses every mark inside.
-    fn drop_violated(&self, record: &mut [u8]) {
-        for part in 0..self.sizes.parts {
-            let marked = record[MARKS + part] == 1 && self.kind(part) == MAINTAIN;
-            let estimate = &record[ESTIMATE..STARTED];
-            if marked && self.outcome(part, record, estimate) == Outcome::Violated {
-                record[MARKS + part + 1..MARKS + self.end(part)].fill(0);
-            }
-        }
-    }
-
-    /// Writes the goal bytes and names a contested variable, the lowest one.
-    fn write_goals(&self, marks: &[u8], goals: &mut [u8]) -> u8 {
+    /// From the root down, a marked MAINTAIN whose condition is violated loses every mark inside; the
+    /// marked GOALs that are left give the goal bytes.
+    fn write_goals(&self, record: &mut Record, goals: &mut [u8]) {
         goals.fill(NO_GOAL);
-        for (part, &mark) in marks[..self.sizes.parts].iter().enumerate() {
-            if mark == 1 && self.kind(part) == GOAL {
-                let [_, variable, value, _] = self.operand(part);
-                let byte = &mut goals[usize::from(variable)];
-                let first_or_same = *byte == NO_GOAL || *byte == value;
-                *byte = if first_or_same { value } else { CONTESTED };
+        for part in 0..self.sizes.parts {
+            if record[MARKS + part] == 0 {
+                continue;
+            }
+            match self.kind(part) {
+                MAINTAIN => {
+                    let estimate = &record[ESTIMATE..STARTED];
+                    if self.outcome(part, record, estimate) == Outcome::Violated {
+                        record[MARKS + part + 1..MARKS + self.end(part)].fill(0);
+                    }
+                }
+                GOAL => {
+                    let [_, variable, value, _] = self.operand(part);
+                    let byte = &mut goals[usize::from(variable)];
+                    let first_or_same = *byte == NO_GOAL || *byte == value;
+                    *byte = if first_or_same { value } else { CONTESTED };
+                }
+                _ => {}
             }
         }
-        let contested = goals.iter().position(|&byte| byte == CONTESTED);
-        contested.map_or(NONE_CONTESTED, |variable| variable as u8)
     }
 
     /// The marks after a settling. What is inside a part is settled before it, so the parts go from
     /// the last to the first; only those marked before are judged.
-    fn marks_after(&self, record: &[u8], estimate: &[u8]) -> Marks {
-        let before = &record[MARKS..RECORD_LEN];
-        let mut after = [0; MAX_PARTS];
-        after.copy_from_slice(before);
+    fn marks_after(&self, record: &Record, estimate: &[u8]) -> Marks {
+        let before = marks_in(record);
+        let mut after = *before;
         for part in (0..self.sizes.parts).rev() {
             if before[part] == 0 {
                 continue;
@@ -214,7 +221,7 @@ impl Table<'_> {
     }
 
     /// The branch that a deciding CHOICE takes.
-    fn chosen(&self, choice: usize, record: &[u8], estimate: &[u8]) -> usize {
+    fn chosen(&self, choice: usize, record: &Record, estimate: &[u8]) -> usize {
         match self.outcome(choice, record, estimate) {
             Outcome::Satisfied => choice + 1,
             _ => self.end(choice + 1),
@@ -222,7 +229,7 @@ impl Table<'_> {
     }
 
     /// Whether some leaf is marked, or some CHOICE is deciding.
-    fn goes_on(&self, marks: &[u8]) -> bool {
+    fn goes_on(&self, marks: &Marks) -> bool {
         (0..self.sizes.parts).any(|part| {
             let live = match self.kind(part) {
                 GOAL | START | WAIT => true,
@@ -234,12 +241,14 @@ impl Table<'_> {
     }
 
     /// A marked START starts its clock at the last time unless that clock is started.
-    fn start_clocks(&self, record: &mut [u8]) {
+    fn start_clocks(&self, record: &mut Record) {
         let time = time_at(record, TIME);
         for part in 0..self.sizes.parts {
+            if record[MARKS + part] == 0 || self.kind(part) != START {
+                continue;
+            }
             let clock = usize::from(self.operand(part)[1]);
-            let starts = record[MARKS + part] == 1 && self.kind(part) == START;
-            if starts && record[STARTED + clock] == 0 {
+            if record[STARTED + clock] == 0 {
                 record[STARTED + clock] = 1;
                 let place = start_place(clock);
                 record[place..place + TIME_LEN].copy_from_slice(&time.to_le_bytes());
@@ -247,65 +256,66 @@ impl Table<'_> {
         }
     }
 
-    /// Whether the marks of a run in this phase are such as the paper allows.
-    fn marks_allowed(&self, phase: u8, marks: &[u8]) -> bool {
-        let parts = self.sizes.parts;
-        if marks.iter().any(|&mark| mark > 1) || !all_zero(&marks[parts..]) {
+    /// Whether the marks of a run in this phase are such as the paper allows. From the last part to
+    /// the first, the marked children of a part have been counted when it is looked at.
+    fn marks_allowed(&self, phase: u8, marks: &Marks) -> bool {
+        let (marks, beyond) = marks.split_at(self.sizes.parts);
+        if !all_zero(beyond) {
             return false;
         }
         if phase == FINISHED {
             return all_zero(marks);
         }
-        marks[0] == 1 && (0..parts).all(|part| self.mark_allowed(part, phase, marks))
-    }
-
-    /// Whether a part is unmarked or has a marked parent and as many marked children as it may.
-    fn mark_allowed(&self, part: usize, phase: u8, marks: &[u8]) -> bool {
-        if marks[part] == 0 {
-            return true;
+        let mut counts = [0; MAX_PARTS];
+        for (part, &mark) in marks.iter().enumerate().rev() {
+            if mark == 0 {
+                continue;
+            }
+            if mark > 1 || !count_allowed(self.kind(part), counts[part], phase) {
+                return false;
+            }
+            if part > 0 {
+                let parent = self.parent(part);
+                if marks[parent] == 0 {
+                    return false;
+                }
+                counts[parent] += 1;
+            }
         }
-        let count = self.marked_children(part, marks);
-        let children_allowed = match self.kind(part) {
-            SEQ | REPEAT => count == 1,
-            PAR => count >= 1,
-            CHOICE => count <= 1,
-            MAINTAIN => count == 1 || phase == OFFERED,
-            _ => true,
-        };
-        children_allowed && (part == 0 || marks[self.parent(part)] == 1)
+        marks[0] == 1
     }
+}
 
-    fn marked_children(&self, part: usize, marks: &[u8]) -> usize {
-        let mut count = 0;
-        let mut child = part + 1;
-        while child < self.end(part) {
-            count += usize::from(marks[child]);
-            child = self.end(child);
-        }
-        count
+/// Whether a marked part of this kind may have so many marked children.
+fn count_allowed(kind: u8, count: u16, phase: u8) -> bool {
+    match kind {
+        SEQ | REPEAT => count == 1,
+        PAR => count >= 1,
+        CHOICE => count <= 1,
+        MAINTAIN => count == 1 || phase == OFFERED,
+        _ => true,
     }
 }
 
 fn estimate_allowed(estimate: &[u8], table: &Table) -> bool {
-    let allowed = |&value: &u8| u16::from(value) <= MAX_VALUE;
-    estimate.len() == table.sizes.variables && estimate.iter().all(allowed)
+    estimate.len() == table.sizes.variables && values_allowed(estimate)
 }
 
-fn record_allowed(record: &[u8], table: &Table) -> bool {
-    record.len() >= RECORD_LEN
-        && record[PHASE] <= FINISHED
-        && record_estimate_allowed(record, table)
+fn values_allowed(values: &[u8]) -> bool {
+    values.iter().all(|&value| u16::from(value) <= MAX_VALUE)
+}
+
+fn record_allowed(record: &Record, table: &Table) -> bool {
+    let estimate = &record[ESTIMATE..ESTIMATE + MAX_VARIABLES];
+    let (values, beyond) = estimate.split_at(table.sizes.variables);
+    record[PHASE] <= FINISHED
+        && values_allowed(values)
+        && all_zero(beyond)
         && (0..MAX_CLOCKS).all(|clock| clock_allowed(record, table, clock))
-        && table.marks_allowed(record[PHASE], &record[MARKS..RECORD_LEN])
+        && table.marks_allowed(record[PHASE], marks_in(record))
 }
 
-fn record_estimate_allowed(record: &[u8], table: &Table) -> bool {
-    let (values, beyond) =
-        record[ESTIMATE..ESTIMATE + MAX_VARIABLES].split_at(table.sizes.variables);
-    values.iter().all(|&value| u16::from(value) <= MAX_VALUE) && all_zero(beyond)
-}
-
-fn clock_allowed(record: &[u8], table: &Table, clock: usize) -> bool {
+fn clock_allowed(record: &Record, table: &Table, clock: usize) -> bool {
     let start = time_at(record, start_place(clock));
     match record[STARTED + clock] {
         0 => start == 0,
@@ -315,15 +325,19 @@ fn clock_allowed(record: &[u8], table: &Table, clock: usize) -> bool {
 }
 
 /// What a started clock reads.
-fn reading(record: &[u8], clock: usize) -> u32 {
+fn reading(record: &Record, clock: usize) -> u32 {
     time_at(record, TIME) - time_at(record, start_place(clock))
 }
 
-fn time_at(record: &[u8], place: usize) -> u32 {
+fn time_at(record: &Record, place: usize) -> u32 {
     let [b0, b1, b2, b3] = record[place..place + TIME_LEN] else {
         unreachable!("a time has four bytes");
     };
     u32::from_le_bytes([b0, b1, b2, b3])
+}
+
+fn marks_in(record: &Record) -> &Marks {
+    record.last_chunk().expect("a record ends with the marks")
 }
 
 fn all_zero(bytes: &[u8]) -> bool {

@@ -1,23 +1,35 @@
 //! Location tables: read from a file, given back, and checked.
 
-use super::program::{child_count, is_one_tree, kind_known, operand_allowed, walk, Links, Operand};
+use super::program::{child_count, kind_known, next_of, operand_allowed, Operand};
 use crate::model::{
-    Sizes, FILE_TOO_SHORT, MAX_PARTS, NOT_A_TABLE, NOT_ONE_TREE, NUMBER_LEN, OPERAND_LEN,
+    Sizes, FILE_TOO_SHORT, MAX_DEPTH, MAX_PARTS, NONE, NOT_A_TABLE, NOT_ONE_TREE, NUMBER_LEN,
     OPERAND_NOT_ALLOWED, OUTPUT_TOO_SHORT, ROW_LEN, SIZES_LEN, SIZE_OUT_OF_RANGE, TOO_DEEP,
     UNKNOWN_KIND, WRONG_FILE_LENGTH,
 };
 
-/// Bytes of the links in a row.
-const LINKS_LEN: usize = 3 * NUMBER_LEN;
+/// The bytes of a part in a table.
+type Row = [u8; ROW_LEN];
+
+/// Where the fields of a row stand.
+const KIND: usize = 0;
+const END: usize = KIND + 1;
+const PARENT: usize = END + NUMBER_LEN;
+const NEXT: usize = PARENT + NUMBER_LEN;
+const OPERAND: usize = NEXT + NUMBER_LEN;
 
 /// Reads a program file and writes its location table to the front of `table`.
 pub fn compile(file: &[u8], table: &mut [u8]) -> Result<(), u32> {
     let file = File::read(file)?;
-    let mut links = [[0; LINKS_LEN]; MAX_PARTS];
-    file.find_links(&mut links)?;
-    let rows = file.sizes.table_len();
-    let rows = table.get_mut(..rows).ok_or(OUTPUT_TOO_SHORT)?;
-    file.write_table(&links, rows);
+    let mut extents = [Extent::default(); MAX_PARTS];
+    let extents = &mut extents[..file.sizes.parts];
+    if !file.find_extents(extents) {
+        return Err(NOT_ONE_TREE);
+    }
+    if usize::from(extents[0].levels) > MAX_DEPTH {
+        return Err(TOO_DEEP);
+    }
+    let table = table.get_mut(..file.sizes.table_len());
+    file.write_table(extents, table.ok_or(OUTPUT_TOO_SHORT)?);
     Ok(())
 }
 
@@ -30,12 +42,20 @@ pub fn decompile(table: &[u8], file: &mut [u8]) -> Result<(), u32> {
     Ok(())
 }
 
+/// How far a part reaches: to the first number after it and what is inside it, and down over so many
+/// levels, itself the first.
+#[derive(Clone, Copy, Default)]
+struct Extent {
+    end: u16,
+    levels: u16,
+}
+
 /// A program file whose kinds and operands have been checked.
 struct File<'a> {
     sizes: Sizes,
     header: &'a [u8],
     kinds: &'a [u8],
-    operands: &'a [[u8; OPERAND_LEN]],
+    operands: &'a [Operand],
 }
 
 impl<'a> File<'a> {
@@ -68,138 +88,158 @@ impl<'a> File<'a> {
     }
 
     /// Kind and operand of each part.
-    fn entries(&self) -> impl Iterator<Item = (u8, Operand)> + '_ {
+    fn entries(&self) -> impl DoubleEndedIterator<Item = (u8, Operand)> + ExactSizeIterator + '_ {
         let kinds = self.kinds.iter().copied();
         kinds.zip(self.operands.iter().copied())
     }
 
-    /// Notes each part's links, unless the parts form no single tree or one that is too deep.
-    fn find_links(&self, links: &mut [[u8; LINKS_LEN]]) -> Result<(), u32> {
-        let counts = self
-            .entries()
-            .map(|(kind, operand)| child_count(kind, operand));
-        if !is_one_tree(counts) {
-            return Err(NOT_ONE_TREE);
+    /// Finds how far each part reaches, if the parts form exactly one tree. A part ends where its
+    /// last child does; from the last part to the first, the children are known.
+    fn find_extents(&self, extents: &mut [Extent]) -> bool {
+        for (part, (kind, operand)) in self.entries().enumerate().rev() {
+            let mut end = part + 1;
+            let mut levels = 1;
+            for _ in 0..child_count(kind, operand) {
+                let Some(child) = extents.get(end) else {
+                    return false;
+                };
+                levels = levels.max(1 + child.levels);
+                end = usize::from(child.end);
+            }
+            extents[part] = Extent {
+                end: end as u16,
+                levels,
+            };
         }
-        let entry = |part: usize| (self.kinds[part], self.operands[part]);
-        let note = |part: usize, found| {
-            links[part] = link_bytes(found);
-            true
-        };
-        // Of one tree the walk misses the end only where a part is too deep.
-        match walk(self.sizes.parts, entry, note) {
-            true => Ok(()),
-            false => Err(TOO_DEEP),
-        }
+        usize::from(extents[0].end) == self.sizes.parts
     }
 
     /// Fills a table with the sizes and the rows.
-    fn write_table(&self, links: &[[u8; LINKS_LEN]], table: &mut [u8]) {
+    fn write_table(&self, extents: &[Extent], table: &mut [u8]) {
         let (header, rows) = table.split_at_mut(SIZES_LEN);
+        let (rows, _) = rows.as_chunks_mut();
         header.copy_from_slice(self.header);
-        let parts = self.entries().zip(links);
-        for (row, ((kind, operand), links)) in rows.chunks_exact_mut(ROW_LEN).zip(parts) {
-            row[0] = kind;
-            row[1..1 + LINKS_LEN].copy_from_slice(links);
-            row[1 + LINKS_LEN..].copy_from_slice(&operand);
+        put_number(&mut rows[0], PARENT, NONE);
+        put_number(&mut rows[0], NEXT, NONE);
+        for (part, (kind, operand)) in self.entries().enumerate() {
+            let end = usize::from(extents[part].end);
+            rows[part][KIND] = kind;
+            put_number(&mut rows[part], END, end);
+            rows[part][OPERAND..].copy_from_slice(&operand);
+            let mut child = part + 1;
+            while child < end {
+                let child_end = usize::from(extents[child].end);
+                let next = next_of(child, child_end, kind, child_end == end);
+                put_number(&mut rows[child], PARENT, part);
+                put_number(&mut rows[child], NEXT, next);
+                child = child_end;
+            }
         }
     }
 }
 
 /// A location table that has been checked.
 pub struct Table<'a> {
-    bytes: &'a [u8],
     pub sizes: Sizes,
+    header: &'a [u8],
+    rows: &'a [Row],
 }
 
 impl<'a> Table<'a> {
     /// The bytes as a table, if they are the table of some file.
     pub fn read(bytes: &'a [u8]) -> Option<Table<'a>> {
         let sizes = Sizes::read(bytes)?;
-        let allowed = sizes.allowed() && bytes.len() == sizes.table_len();
-        let table = Table { bytes, sizes };
-        (allowed && table.rows_allowed() && table.links_allowed()).then_some(table)
+        if !sizes.allowed() || bytes.len() != sizes.table_len() {
+            return None;
+        }
+        let (header, rows) = bytes.split_at(SIZES_LEN);
+        let (rows, _) = rows.as_chunks();
+        let table = Table {
+            sizes,
+            header,
+            rows,
+        };
+        table.rows_allowed().then_some(table)
     }
 
     pub fn kind(&self, part: usize) -> u8 {
-        self.bytes[SIZES_LEN + ROW_LEN * part]
+        self.rows[part][KIND]
     }
 
     pub fn end(&self, part: usize) -> usize {
-        self.link(part, 0)
+        number_at(&self.rows[part], END)
     }
 
     pub fn parent(&self, part: usize) -> usize {
-        self.link(part, 1)
+        number_at(&self.rows[part], PARENT)
     }
 
     pub fn next(&self, part: usize) -> usize {
-        self.link(part, 2)
-    }
-
-    /// One of the three numbers that follow the kind in a row.
-    fn link(&self, part: usize, which: usize) -> usize {
-        let place = SIZES_LEN + ROW_LEN * part + 1 + NUMBER_LEN * which;
-        let bytes = &self.bytes[place..place + NUMBER_LEN];
-        let number = |high, &low: &u8| 256 * high + usize::from(low);
-        bytes.iter().rev().fold(0, number)
+        number_at(&self.rows[part], NEXT)
     }
 
     pub fn operand(&self, part: usize) -> Operand {
-        let end = SIZES_LEN + ROW_LEN * (part + 1);
-        let [b0, b1, b2, b3] = self.bytes[end - OPERAND_LEN..end] else {
-            unreachable!("an operand has four bytes");
-        };
-        [b0, b1, b2, b3]
+        operand_in(&self.rows[part])
     }
 
-    fn entry(&self, part: usize) -> (u8, Operand) {
-        (self.kind(part), self.operand(part))
-    }
-
-    /// Whether kinds and operands are those of a file.
+    /// Whether kinds and operands are those of a file, and the rest is what they imply.
     fn rows_allowed(&self) -> bool {
-        (0..self.sizes.parts).all(|part| {
-            let (kind, operand) = self.entry(part);
-            operand_allowed(kind, operand, &self.sizes)
-        })
+        let parts = self.sizes.parts;
+        let root_allowed = (self.end(0), self.parent(0), self.next(0)) == (parts, NONE, NONE);
+        let mut depths = [1; MAX_PARTS];
+        root_allowed
+            && (0..parts).all(|part| {
+                operand_allowed(self.kind(part), self.operand(part), &self.sizes)
+                    && depths[part] <= MAX_DEPTH as u8
+                    && self.children_allowed(part, &mut depths)
+            })
     }
 
-    /// Whether the parts form exactly one tree, not too deep, and end, parent and next are those
-    /// of that tree.
-    fn links_allowed(&self) -> bool {
-        let same = |part, links| links == self.links(part);
-        walk(self.sizes.parts, |part| self.entry(part), same)
-    }
-
-    /// What a part's row says of its place in the tree.
-    fn links(&self, part: usize) -> Links {
-        Links {
-            end: self.end(part),
-            parent: self.parent(part),
-            next: self.next(part),
+    /// Whether a part has as many children as it should, one after the other up to its end, and
+    /// their rows say so. A child whose own end is wrong is found when its children are looked at.
+    fn children_allowed(&self, part: usize, depths: &mut [u8; MAX_PARTS]) -> bool {
+        let kind = self.kind(part);
+        let end = self.end(part);
+        let mut child = part + 1;
+        for left in (0..child_count(kind, self.operand(part))).rev() {
+            if child >= end {
+                return false;
+            }
+            let child_end = self.end(child);
+            let next = next_of(child, child_end, kind, left == 0);
+            if self.parent(child) != part || self.next(child) != next {
+                return false;
+            }
+            depths[child] = depths[part] + 1;
+            child = child_end;
         }
+        child == end
     }
 
     /// Fills a file with the sizes, the kinds and the operands.
     fn write_file(&self, file: &mut [u8]) {
         let (header, arrays) = file.split_at_mut(SIZES_LEN);
-        header.copy_from_slice(&self.bytes[..SIZES_LEN]);
+        header.copy_from_slice(self.header);
         let (kinds, operands) = arrays.split_at_mut(self.sizes.parts);
-        let outputs = kinds.iter_mut().zip(operands.chunks_exact_mut(OPERAND_LEN));
-        for (part, (kind, operand)) in outputs.enumerate() {
-            *kind = self.kind(part);
-            operand.copy_from_slice(&self.operand(part));
+        let (operands, _) = operands.as_chunks_mut();
+        for ((row, kind), operand) in self.rows.iter().zip(kinds).zip(operands) {
+            *kind = row[KIND];
+            *operand = operand_in(row);
         }
     }
 }
 
-/// The bytes of a part's links in its row.
-fn link_bytes(links: Links) -> [u8; LINKS_LEN] {
-    let mut bytes = [0; LINKS_LEN];
-    let numbers = [links.end, links.parent, links.next];
-    for (place, number) in bytes.chunks_exact_mut(NUMBER_LEN).zip(numbers) {
-        place.copy_from_slice(&number.to_le_bytes()[..NUMBER_LEN]);
-    }
-    bytes
+fn operand_in(row: &Row) -> Operand {
+    *row.last_chunk().expect("a row ends with the operand")
+}
+
+/// The number that stands at a place in a row.
+fn number_at(row: &Row, place: usize) -> usize {
+    let bytes = &row[place..place + NUMBER_LEN];
+    let number = |high, &low: &u8| 256 * high + usize::from(low);
+    bytes.iter().rev().fold(0, number)
+}
+
+fn put_number(row: &mut Row, place: usize, number: usize) {
+    row[place..place + NUMBER_LEN].copy_from_slice(&number.to_le_bytes()[..NUMBER_LEN]);
 }
