@@ -1,6 +1,6 @@
-//! The executives that the tests run: the library, and the plain one beside it.
+//! The executives that the tests run: the library, and two plain ones beside it.
 
-use crate::reference;
+use crate::{board, reference};
 
 /// The five operations, with the answers of the C interface.
 pub struct Executive {
@@ -27,9 +27,9 @@ pub static LIBRARY: Executive = Executive {
     settle: crate::settle,
 };
 
-/// The plain executive.
+/// The plain executive in Rust.
 pub static REFERENCE: Executive = Executive {
-    name: "reference",
+    name: "plain Rust",
     compile: reference::compile,
     decompile: reference::decompile,
     begin: reference::begin,
@@ -37,5 +37,15 @@ pub static REFERENCE: Executive = Executive {
     settle: reference::settle,
 };
 
+/// The plain executive in C.
+pub static BOARD: Executive = Executive {
+    name: "plain C",
+    compile: board::compile,
+    decompile: board::decompile,
+    begin: board::begin,
+    offer: board::offer,
+    settle: board::settle,
+};
+
 /// All executives, the one that matters most first.
-pub static ALL: &[&Executive] = &[&LIBRARY, &REFERENCE];
+pub static ALL: &[&Executive] = &[&LIBRARY, &REFERENCE, &BOARD];

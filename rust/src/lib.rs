@@ -1,5 +1,6 @@
 //! The library gurvoke, called from Rust, and independent models to compare it with.
 
+pub mod board;
 pub mod builder;
 pub mod cases;
 pub mod executive;
@@ -118,7 +119,7 @@ pub fn settle(table: &[u8], record: &mut [u8], estimate: &[u8]) -> u32 {
     }
 }
 
-/// The library's answer: 0 is success, any other number a refusal.
+/// The answer of a call in C: 0 is success, any other number a refusal.
 fn answer(number: u32) -> Result<(), u32> {
     match number {
         0 => Ok(()),

@@ -137,8 +137,8 @@ fn check_each_byte(file: &[u8], values: &[u8]) -> usize {
     others
 }
 
-/// With the table of another file, an executive does what the plain one does, but for the name of a
-/// contested variable.
+/// With the table of another file, an executive does what the plain one in Rust does, but for the
+/// name of a contested variable.
 fn assert_alike(executive: &Executive, table: &[u8], outcomes: &[Outcome; 3], program: &Program) {
     let plain = three_calls(&REFERENCE, table, program);
     for (outcome, plain) in outcomes.iter().zip(&plain) {

@@ -1,6 +1,6 @@
-//! What the five calls cost, in the library and in plain Rust (`gurvoke::reference`): instructions,
-//! counted by callgrind, and the deepest stack. Not part of the tests, and nothing in it is timed:
-//! the figures are the same in every run.
+//! What the five calls cost, in the library, in plain Rust (`gurvoke::reference`) and in plain C
+//! (`gurvoke::board`): instructions, counted by callgrind, and the deepest stack. Not part of the
+//! tests, and nothing in it is timed: the figures are the same in every run.
 //!
 //! `cargo run --offline --release --bin performance` prints the tables of docs/PERFORMANCE.md.
 
@@ -12,7 +12,7 @@ mod trial;
 
 use std::env;
 
-use gurvoke::executive::{Executive, LIBRARY, REFERENCE};
+use gurvoke::executive::{Executive, BOARD, LIBRARY, REFERENCE};
 
 use instructions::{Counts, FunctionCost};
 use programs::{Shape, SHAPES, SIZES};
@@ -21,7 +21,7 @@ use trial::{Operation, Trial, IDLE};
 /// The argument with which this program runs itself under callgrind.
 const COUNT_CALLS: &str = "count-calls";
 
-static EXECUTIVES: [&Executive; 3] = [&LIBRARY, &REFERENCE, &IDLE];
+static EXECUTIVES: [&Executive; 4] = [&LIBRARY, &REFERENCE, &BOARD, &IDLE];
 
 /// What one call takes.
 pub struct Cost {
@@ -38,7 +38,7 @@ pub struct Cost {
 
 fn main() {
     if cfg!(debug_assertions) {
-        panic!("build for release: the library is optimised, so plain Rust has to be");
+        panic!("build for release: the library and plain C are optimised, so plain Rust has to be");
     }
     let arguments: Vec<String> = env::args().skip(1).collect();
     match &arguments[..] {

@@ -1,6 +1,6 @@
 //! The tables that are printed, in Markdown.
 
-use gurvoke::executive::{LIBRARY, REFERENCE};
+use gurvoke::executive::{Executive, BOARD, LIBRARY, REFERENCE};
 
 use crate::programs::{SHAPES, SIZES};
 use crate::trial::{Operation, IDLE};
@@ -12,6 +12,9 @@ const WHOLE: usize = 200;
 
 /// Functions with less than this part of a call's instructions are left out.
 const LEAST_SHARE: f64 = 0.005;
+
+/// The executives that the library is compared with.
+static PLAIN: [&Executive; 2] = [&REFERENCE, &BOARD];
 
 pub fn print(costs: &[Cost]) {
     let costs = Costs(costs);
@@ -47,9 +50,10 @@ impl Costs<'_> {
         instructions(WHOLE) as f64 / instructions(HALF) as f64
     }
 
-    fn ratio(&self, shape: &str, parts: usize, operation: Operation) -> f64 {
+    /// What the library takes over what a plain executive takes.
+    fn ratio(&self, shape: &str, parts: usize, operation: Operation, plain: &str) -> f64 {
         let instructions = |executive| self.of(shape, parts, operation, executive).instructions;
-        instructions(LIBRARY.name) as f64 / instructions(REFERENCE.name) as f64
+        instructions(LIBRARY.name) as f64 / instructions(plain) as f64
     }
 
     /// The deepest stack of a call over all sizes.
@@ -85,24 +89,22 @@ fn print_instructions(costs: &Costs, shape: &str) {
     println!("| Call | | {} Growth | Stack, bytes |", sizes.join(" "));
     println!("|---|---|{}---:|---:|", "---:|".repeat(SIZES.len()));
     for operation in Operation::ALL {
-        for (executive, label) in [(&LIBRARY, "library"), (&REFERENCE, "plain Rust")] {
-            let name = executive.name;
+        let call = operation.name();
+        for Executive { name, .. } in [&LIBRARY].into_iter().chain(PLAIN) {
             let instructions =
                 SIZES.map(|parts| grouped(costs.of(shape, parts, operation, name).instructions));
             println!(
-                "| {} | {label} | {} | {:.2} | {} |",
-                operation.name(),
+                "| {call} | {name} | {} | {:.2} | {} |",
                 instructions.join(" | "),
                 costs.growth(shape, operation, name),
                 grouped(costs.stack(shape, operation, name) as u64)
             );
         }
-        let ratios = SIZES.map(|parts| format!("{:.2}", costs.ratio(shape, parts, operation)));
-        println!(
-            "| {} | ratio | {} | | |",
-            operation.name(),
-            ratios.join(" | ")
-        );
+        for Executive { name, .. } in PLAIN {
+            let ratio = |parts| costs.ratio(shape, parts, operation, name);
+            let ratios = SIZES.map(|parts| format!("{:.2}", ratio(parts)));
+            println!("| {call} | ratio to {name} | {} | | |", ratios.join(" | "));
+        }
     }
 }
 
@@ -164,13 +166,21 @@ fn print_worst(costs: &Costs) {
     };
     let growth = calls().map(|(shape, operation)| costs.growth(shape, operation, LIBRARY.name));
     let stack = calls().map(|(shape, operation)| costs.stack(shape, operation, LIBRARY.name));
-    let ratio = calls().map(|(shape, operation)| costs.ratio(shape, WHOLE, operation));
     println!("\n### Largest figures of the library\n");
     println!(
         "- growth from {HALF} to {WHOLE} parts: {:.2}",
         largest(growth)
     );
-    println!("- ratio at {WHOLE} parts: {:.2}", largest(ratio));
+    for Executive { name, .. } in PLAIN {
+        let ratio = |parts| {
+            largest(calls().map(|(shape, operation)| costs.ratio(shape, parts, operation, name)))
+        };
+        println!(
+            "- ratio to {name}: {:.2} at {WHOLE} parts, {:.2} over all sizes",
+            ratio(WHOLE),
+            largest(SIZES.into_iter().map(ratio))
+        );
+    }
     println!(
         "- stack: {} bytes",
         grouped(stack.max().expect("some calls") as u64)

@@ -1,5 +1,8 @@
 //! The deepest stack of a call, found by painting: the call runs on a stack of its own, filled with
 //! one byte value, and the deepest byte that has changed afterwards shows how far it went.
+//!
+//! Nothing of the loader is in it: rustc links with `-z now`, so that memset, memcpy and the like are
+//! found when the program starts and not in the first call.
 
 use std::arch::asm;
 use std::hint::black_box;
