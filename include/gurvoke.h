@@ -16,8 +16,8 @@
  * What is kept
  *   Nothing, between calls: all that a run is stands in its record, which may be moved, stored and
  *   read back. No call keeps a pointer, allocates, or has memory of its own but the stack, of which
- *   it takes less than 4 KiB on x86-64 (docs/PERFORMANCE.md). The one function that the library
- *   needs from elsewhere is memset.
+ *   it takes less than 2 KiB on x86-64 (docs/PERFORMANCE.md). The two functions that the library
+ *   needs from elsewhere are memset and memcpy.
  *
  * Threads and interrupts
  *   Calls may run at the same time, in threads or in interrupts, if no buffer that one of them

@@ -1,3 +1,4 @@
 pub mod Places
+pub mod Children
 pub mod Markings
 pub mod Running

@@ -1,42 +1,43 @@
--- The tests that go over places in turn: what a turn, a turn that stops and the end of the loop make of the rest, and which of the clauses on a record they are.
+-- The tests that go over places in turn: what a turn and the end of the loop make of what has passed and what is left, and which of the clauses on a record they are.
 use Prim.Native.Nat.{ℕ, zero, suc, _+_, _-_, _*_, _<_, _≤_}
 use mathlib.Core.Path.{_≡_, refl, sym, _∙_}
-use mathlib.Core.Bool.{Bool, true, false, not, _&&_}
+use mathlib.Core.Bool.{Bool, true, false, not, _&&_, and-true, and-assoc}
 use mathlib.Core.List.{List}
 use native.Mathlib.Nat.{zero-add, sub-zero}
 use native.Mathlib.Numerals.{add-one}
 use native.Mathlib.Omega.{arith}
 use lib.Dec.{eqb, leb}
 use lib.ListN.{length, getD}
-use borrow.Author.Tests.{not-true, not-false, leb-true, le-leb, eqb-true, eq-eqb}
+use borrow.Author.Tests.{not-true, not-false, leb-true, le-leb, eqb-true, eq-eqb, ne-eqb}
 use Rattle.base.specs.Lists.{all, bytesAt, tabulate}
 use Rattle.base.proofs.Lists.{both-true, getD-tabulate}
 use Rattle.base.proofs.Stores.{getD-bytes, bytes-all}
 use Rattle.meaning.specs.Sizes.{timeWidth, maxVariables, maxClocks, maxParts, maxValue}
 use Rattle.meaning.specs.Program.{parts, variables, clocks}
+use Rattle.meaning.specs.Table.{isTable}
 use Rattle.meaning.specs.Record.{estimatePlace, startedPlace, startsPlace, marksPlace, recordLength, timeAt, phaseOf, finished, lastTime, startedIn, startsIn, isZero, restZero, valuesAllowed, clockAllowed, clocksAllowed}
 use Rattle.meaning.specs.Cycle.{estimateAllowed}
+use Rattle.meaning.proofs.Tables.{table-held}
+use Rattle.record.proofs.Marks.{marks-inside}
 use Rattle.allowed.specs.Places.{allFrom, atMost, clockAt}
 
--- the loop's turns
+-- the loop: what has passed so far, and what is left, are the whole
 module _ (f : ℕ → Bool) (i e : ℕ) where
-  all-next : (b x : Bool) → i < e → b ≡ f i → allFrom f i (e - i) ≡ x → (b && allFrom f (i + 1) (e - (i + 1))) ≡ x
+  pub all-next : (a b x : Bool) → i < e → b ≡ f i → (a && allFrom f i (e - i)) ≡ x → ((a && b) && allFrom f (i + 1) (e - (i + 1))) ≡ x
   unfolding allFrom
-  all-next b x h b-is inv =
+  all-next a b x h b-is inv =
       let k : e - i ≡ suc (e - (i + 1)) = omega arith in
-      rw (b-is, add-one) (rw (k, add-one) at inv)
+      rw (b-is, add-one, and-assoc) (rw (k, add-one) at inv)
 
-  pub all-passes : (b x : Bool) → i < e → b ≡ f i → not b ≡ false → allFrom f i (e - i) ≡ x → allFrom f (i + 1) (e - (i + 1)) ≡ x
-  all-passes b x h b-is t inv = rw (not-false b t) at (all-next b x h b-is inv)
-
-  pub all-fails : (b x : Bool) → i < e → b ≡ f i → not b ≡ true → allFrom f i (e - i) ≡ x → false ≡ x
-  all-fails b x h b-is t inv = rw (not-true b t) at (all-next b x h b-is inv)
-
-  pub all-ends : (x : Bool) → e ≤ i → allFrom f i (e - i) ≡ x → true ≡ x
+  pub all-ends : (a x : Bool) → e ≤ i → (a && allFrom f i (e - i)) ≡ x → a ≡ x
   unfolding allFrom
-  all-ends x h inv =
+  all-ends a x h inv =
       let k : e - i ≡ 0 = omega arith in
-      rw k at inv
+      rw (k, and-true) at inv
+
+pub byte-next : (r : List ℕ) (most i e : ℕ) (a x : Bool) → i < e → (a && allFrom (atMost r most) i (e - i)) ≡ x → ((a && leb (getD r i 0) most) && allFrom (atMost r most) (i + 1) (e - (i + 1))) ≡ x
+unfolding atMost
+byte-next r most i e a x h inv = all-next (atMost r most) i e a (leb (getD r i 0) most) x h refl inv
 
 -- bytes that are all at most a number, and bytes that are all 0
 leb-zero : (b : ℕ) → leb b 0 ≡ eqb b 0
@@ -58,6 +59,10 @@ zero-bytes r i n b e = e ∙ each i n
     each i zero = refl
     each i (suc n) = rw (leb-zero (getD r i 0), each (suc i) n)
 
+-- the marks of all parts stand in a record
+pub marks-long : (t r : List ℕ) (n n₁ : ℕ) → isTable t ≡ true → recordLength ≤ length r → n₁ ≡ parts t → n ≡ n₁ → marksPlace + n ≤ length r
+marks-long t r n n₁ table long n₁-is n-is = marks-inside t table r n long (omega arith)
+
 -- the clauses on a record, at the sizes that were read, as bytes and then as numbers that index
 module _ (t r : List ℕ) (v k n v₁ k₁ n₁ : ℕ) (v₁-is : v₁ ≡ variables t) (v-is : v ≡ v₁) (k₁-is : k₁ ≡ clocks t) (k-is : k ≡ k₁) (n₁-is : n₁ ≡ parts t) (n-is : n ≡ n₁) where
   pub rest-made : (a b c d : Bool) → a ≡ all isZero (bytesAt r (estimatePlace + v) (startedPlace - (estimatePlace + v))) → b ≡ all isZero (bytesAt r (startedPlace + k) (startsPlace - (startedPlace + k))) → c ≡ all isZero (bytesAt r (startsPlace + timeWidth * k) (marksPlace - (startsPlace + timeWidth * k))) → d ≡ all isZero (bytesAt r (marksPlace + n) (recordLength - (marksPlace + n))) → (a && (b && (c && d))) ≡ restZero t r
@@ -78,14 +83,15 @@ module _ (t r : List ℕ) (v k n v₁ k₁ n₁ : ℕ) (v₁-is : v₁ ≡ varia
       rw (phase-is, b-is, c-is, d-is, x, y, z, at-most-bytes r 1 startedPlace k, at-most-bytes r 1 marksPlace n, at-most-bytes r maxValue estimatePlace v, v-is, v₁-is, k-is, k₁-is, n-is, n₁-is)
 
 -- an estimate, at the number of variables that was read, as a byte and then as a number that indexes
-whole : (est : List ℕ) (n : ℕ) (b : Bool) → eqb (length est) n ≡ b → (b && all (λ x. leb x maxValue) (bytesAt est 0 n)) ≡ (b && all (λ x. leb x maxValue) est)
-whole est n true e = rw (← (eqb-true (length est) n e), bytes-all est)
-whole est n false e = refl
+module _ (t est : List ℕ) (v v₁ : ℕ) (v₁-is : v₁ ≡ variables t) (v-is : v ≡ v₁) where
+  pub estimate-other : (length est ≡ v → ⊥) → false ≡ estimateAllowed t est
+  unfolding estimateAllowed
+  estimate-other h = rw (ne-eqb (length est) (variables t) (λ e. h (e ∙ sym (v-is ∙ v₁-is))))
 
-pub estimate-made : (t est : List ℕ) (v v₁ : ℕ) (b : Bool) → v₁ ≡ variables t → v ≡ v₁ → b ≡ allFrom (atMost est maxValue) 0 (v - 0) → (eqb (length est) v && b) ≡ estimateAllowed t est
-unfolding estimateAllowed
-estimate-made t est v v₁ b v₁-is v-is b-is =
-    rw (b-is, sub-zero, at-most-bytes est maxValue 0 v, v-is, v₁-is) (whole est (variables t) (eqb (length est) (variables t)) refl)
+  pub estimate-made : (b : Bool) → length est ≡ v → b ≡ allFrom (atMost est maxValue) 0 (v - 0) → b ≡ estimateAllowed t est
+  unfolding estimateAllowed
+  estimate-made b h b-is =
+      rw (b-is, sub-zero, at-most-bytes est maxValue 0 v, ← h, bytes-all est, eq-eqb (length est) (variables t) (h ∙ v-is ∙ v₁-is))
 
 -- a clock by what its flag says
 module _ (r : List ℕ) (c start : ℕ) (b : Bool) (start-is : start ≡ timeAt r (startsPlace + timeWidth * c)) (b-is : b ≡ not (eqb (getD r (startedPlace + c) 0) 0)) where
@@ -102,6 +108,10 @@ clock-is : (t r : List ℕ) (c : ℕ) → c < clocks t → clockAt r c ≡ clock
 unfolding clockAt
 clock-is t r c h =
     rw (getD-bytes r startedPlace (clocks t) c h, getD-tabulate (λ c. timeAt r (startsPlace + timeWidth * c)) 0 (clocks t) c 0 h, zero-add)
+
+-- a table has no more clocks than a record has room for
+pub clock-inside : (t : List ℕ) (c k : ℕ) → isTable t ≡ true → k ≡ clocks t → c < k → c < maxClocks
+clock-inside t c k table k-is h = omega (arith, table-held t table .1 .within .clocks-fit)
 
 pub clocks-made : (t r : List ℕ) (k : ℕ) → k ≡ clocks t → allFrom (clockAt r) 0 (k - 0) ≡ clocksAllowed t r
 unfolding allFrom clocksAllowed

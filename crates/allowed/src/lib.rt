@@ -14,19 +14,26 @@ use meaning::sizes::RECORD;
 use record::fields::phase;
 use table::is_table;
 ghost use mathlib.Core.Path.{_≡_};
+ghost use mathlib.Core.Bool.{true};
 ghost use Rattle.base.specs.Lists.{firstFailing};
+ghost use Rattle.meaning.specs.Table.{isTable};
 ghost use Rattle.meaning.specs.Record.{recordAllowed};
 ghost use Rattle.meaning.specs.Answers.{answerNumber};
 ghost use Rattle.allowed.specs.Running.{runTests};
 
 // Whether the record is one that a run of the table's program may have (10).
 pub fn is_allowed(t: &[u8], r: &[u8]) -> bool
+    requires { ⌜ isTable (now t) ≡ true ⌝ }
     ensures { λ b. ⌜ b ≡ recordAllowed (now (t .entry)) (now (r .entry)) ⌝ }
 {
-    (RECORD <= r.len())
-        & (rest_zero(t, r)
-            & (values_allowed(t, r)
-                & (clocks_allowed(t, r) & (root_allowed(t, r) & parts_allowed(t, r)))))
+    if r.len() < RECORD {
+        return false;
+    }
+    let fields = rest_zero(t, r) & (values_allowed(t, r) & clocks_allowed(t, r));
+    if !fields {
+        return false;
+    }
+    root_allowed(t, r) & parts_allowed(t, r)
 }
 
 // Whether table and record are those of a run that goes on, or why not: 9, 10, 14.

@@ -4,41 +4,32 @@ use meaning::Number;
 use meaning::sizes::FINISHED;
 use meaning::sizes::OFFERED;
 use part::held::end_at;
-use part::held::parent_at;
 use part::held::parts;
 use record::fields::is_marked;
 use record::fields::phase;
 use walk::walker::entry_at;
 ghost use mathlib.Core.Path.{_≡_};
-ghost use Prim.Native.Nat.{suc, _+_, _-_, _<_, min};
-ghost use lib.ListN.{getD, drop};
+ghost use mathlib.Core.Bool.{true};
+ghost use Prim.Native.Nat.{suc, _+_, _-_, _<_, _≤_};
+ghost use lib.ListN.{length, getD, drop};
 ghost use Rattle.base.specs.Lists.{any, flag, bytesAt};
 ghost use Rattle.meaning.specs.Kinds.{kindOf};
 ghost use Rattle.meaning.specs.Program.{parts};
-ghost use Rattle.meaning.specs.Table.{endAt};
-ghost use Rattle.meaning.specs.Record.{marksPlace, phaseOf, marksIn, isMark, markedChildren, childrenAllowed, partAllowed, partsAllowed, rootAllowed};
-ghost use Rattle.allowed.specs.Inner.{innerMarks};
+ghost use Rattle.meaning.specs.Table.{isTable};
+ghost use Rattle.meaning.specs.Record.{marksPlace, recordLength, phaseOf, marksIn, isMark, markedChildren, childrenAllowed, partAllowed, partsAllowed, rootAllowed};
+ghost use Rattle.allowed.specs.Inner.{innerMarks, partAfter};
 
-// Whether any part from number `from` on, before number `stop`, is marked.
-fn any_marked(r: &[u8], from: Number, stop: Number) -> bool
-    ensures { λ b. ⌜ b ≡ any isMark (bytesAt (now (r .entry)) (marksPlace + from) (stop - from)) ⌝ }
+// Whether any part from number `from` on, before number `to`, is marked.
+fn any_marked(r: &[u8], from: Number, to: Number) -> bool
+    requires { ⌜ marksPlace + to ≤ length (now r) ⌝ }
+    ensures { λ b. ⌜ b ≡ any isMark (bytesAt (now (r .entry)) (marksPlace + from) (to - from)) ⌝ }
 {
-    for q in from..stop {
+    for q in from..to {
         if is_marked(r, q) {
             return true;
         }
     }
     false
-}
-
-// One past the last part inside part p. No part is beyond the last of the program, whatever end a
-// table that is not checked has for p.
-fn stop_of(t: &[u8], p: Number) -> Number
-    ensures { λ e. ⌜ e ≡ min (endAt (now (t .entry)) p) (parts (now (t .entry))) ⌝ }
-{
-    let e = end_at(t, p);
-    let n = parts(t);
-    if e < n { e } else { n }
 }
 
 // A truth as a number to add.
@@ -48,17 +39,20 @@ fn flag(b: bool) -> Number
     if b { 1 } else { 0 }
 }
 
-// How many children of part p are marked.
+// How many children of part p are marked. Where a child ends the next one begins, so that what is
+// inside a child is not looked at.
 fn marked_children(t: &[u8], r: &[u8], p: Number) -> Number
+    requires { ⌜ isTable (now t) ≡ true ⌝ }
+    requires { ⌜ recordLength ≤ length (now r) ⌝ }
+    requires { ⌜ p < parts (now t) ⌝ }
     ensures { λ n. ⌜ n ≡ markedChildren (now (t .entry)) p (suc p) (innerMarks (now (t .entry)) (now (r .entry)) p) ⌝ }
 {
-    let stop = stop_of(t, p);
-    if stop <= p {
-        return 0;
-    }
+    let end = end_at(t, p);
     let mut n: Number = 0;
-    for q in p + 1..stop {
-        n = n + flag(is_marked(r, q) & (parent_at(t, q) == p));
+    let mut q = p + 1;
+    while q < end {
+        n = n + flag(is_marked(r, q));
+        q = end_at(t, q);
     }
     n
 }
@@ -82,6 +76,8 @@ fn children_allowed(phase: u8, kind: u8, n: Number) -> bool
 
 // Whether the marks inside part p are allowed beside its own.
 fn part_allowed(t: &[u8], r: &[u8], phase: u8, p: Number) -> bool
+    requires { ⌜ isTable (now t) ≡ true ⌝ }
+    requires { ⌜ recordLength ≤ length (now r) ⌝ }
     requires { ⌜ p < parts (now t) ⌝ }
     ensures { λ b. ⌜ b ≡ partAllowed (now (t .entry)) phase p (getD (marksIn (now (t .entry)) (now (r .entry))) p 0) (drop (suc p) (marksIn (now (t .entry)) (now (r .entry)))) ⌝ }
 {
@@ -89,29 +85,47 @@ fn part_allowed(t: &[u8], r: &[u8], phase: u8, p: Number) -> bool
         let part = entry_at(t, Form::Table, p);
         children_allowed(phase, part.kind, marked_children(t, r, p))
     } else {
-        !any_marked(r, p + 1, stop_of(t, p))
+        !any_marked(r, p + 1, end_at(t, p))
     }
 }
 
+// The part to look at after part p, which is allowed. Nothing inside an unmarked part is marked then,
+// so that nothing is asked of what is inside.
+fn part_after(t: &[u8], r: &[u8], p: Number) -> Number
+    requires { ⌜ isTable (now t) ≡ true ⌝ }
+    requires { ⌜ recordLength ≤ length (now r) ⌝ }
+    requires { ⌜ p < parts (now t) ⌝ }
+    ensures { λ q. ⌜ q ≡ partAfter (now (t .entry)) p (getD (now (r .entry)) (marksPlace + p) 0) ⌝ }
+{
+    if is_marked(r, p) { p + 1 } else { end_at(t, p) }
+}
+
+// Whether the marks inside each part are allowed beside its own.
 pub fn parts_allowed(t: &[u8], r: &[u8]) -> bool
+    requires { ⌜ isTable (now t) ≡ true ⌝ }
+    requires { ⌜ recordLength ≤ length (now r) ⌝ }
     ensures { λ b. ⌜ b ≡ partsAllowed (now (t .entry)) (phaseOf (now (r .entry))) 0 (marksIn (now (t .entry)) (now (r .entry))) ⌝ }
 {
     let current = phase(r);
-    for p in 0..parts(t) {
+    let n = parts(t);
+    let mut p: Number = 0;
+    while p < n {
         if !part_allowed(t, r, current, p) {
             return false;
         }
+        p = part_after(t, r, p);
     }
     true
 }
 
 // No mark is set once the run is over, and until then the root is marked.
 pub fn root_allowed(t: &[u8], r: &[u8]) -> bool
+    requires { ⌜ isTable (now t) ≡ true ⌝ }
+    requires { ⌜ recordLength ≤ length (now r) ⌝ }
     ensures { λ b. ⌜ b ≡ rootAllowed (phaseOf (now (r .entry))) (marksIn (now (t .entry)) (now (r .entry))) ⌝ }
 {
-    let n = parts(t);
     if phase(r) == FINISHED {
-        return !any_marked(r, 0, n);
+        return !any_marked(r, 0, parts(t));
     }
-    (0 < n) & is_marked(r, 0)
+    is_marked(r, 0)
 }

@@ -1,5 +1,4 @@
-// The tests of an allowed record that look at one byte or one clock at a time.
-use base::at;
+// The tests of an allowed record that go over its bytes, and over its clocks.
 use base::wide;
 use meaning::sizes::ESTIMATE_PLACE;
 use meaning::sizes::FINISHED;
@@ -17,33 +16,33 @@ use record::fields::last_time;
 use record::fields::phase;
 use record::fields::start_of;
 ghost use mathlib.Core.Path.{_≡_};
-ghost use Prim.Native.Nat.{_-_};
+ghost use mathlib.Core.Bool.{true};
+ghost use Prim.Native.Nat.{_-_, _<_, _≤_};
+ghost use lib.ListN.{length};
 ghost use Rattle.base.specs.Lists.{all, bytesAt};
-ghost use Rattle.meaning.specs.Record.{isZero, restZero, valuesAllowed, clocksAllowed};
+ghost use Rattle.meaning.specs.Sizes.{maxClocks};
+ghost use Rattle.meaning.specs.Table.{isTable};
+ghost use Rattle.meaning.specs.Record.{recordLength, isZero, restZero, valuesAllowed, clocksAllowed};
 ghost use Rattle.meaning.specs.Cycle.{estimateAllowed};
 ghost use Rattle.allowed.specs.Places.{allFrom, atMost, clockAt};
 
-fn is_at_most(r: &[u8], i: usize, most: u8) -> bool
-    ensures { λ b. ⌜ b ≡ atMost (now (r .entry)) most i ⌝ }
-{
-    at(r, i) <= most
-}
-
-// Whether the bytes from place `from` on, up to place `to`, are at most `most`; there are none
-// where `to` is not beyond `from`.
+// Whether the bytes from place `from` on, before place `to`, are at most `most`; there are none
+// where `to` is not beyond `from`. It looks at all of them even where one is larger, so that the
+// compiler can take many at once.
 fn all_at_most(r: &[u8], from: usize, to: usize, most: u8) -> bool
+    requires { ⌜ to ≤ length (now r) ⌝ }
     ensures { λ b. ⌜ b ≡ allFrom (atMost (now (r .entry)) most) from (to - from) ⌝ }
 {
+    let mut all = true;
     for i in from..to {
-        if !is_at_most(r, i, most) {
-            return false;
-        }
+        all = all & (r[i] <= most);
     }
-    true
+    all
 }
 
 // Whether those bytes are 0.
 fn all_zero(r: &[u8], from: usize, to: usize) -> bool
+    requires { ⌜ to ≤ length (now r) ⌝ }
     ensures { λ b. ⌜ b ≡ all isZero (bytesAt (now (r .entry)) from (to - from)) ⌝ }
 {
     all_at_most(r, from, to, 0)
@@ -52,6 +51,7 @@ fn all_zero(r: &[u8], from: usize, to: usize) -> bool
 // Whether the entries beyond the program's variables, clocks and parts are 0. Each field's room ends
 // where the next field begins, so that a size beyond its limit leaves nothing to look at.
 pub fn rest_zero(t: &[u8], r: &[u8]) -> bool
+    requires { ⌜ recordLength ≤ length (now r) ⌝ }
     ensures { λ b. ⌜ b ≡ restZero (now (t .entry)) (now (r .entry)) ⌝ }
 {
     let v = wide(variables(t));
@@ -65,6 +65,8 @@ pub fn rest_zero(t: &[u8], r: &[u8]) -> bool
 
 // Whether phase, started flags, marks and estimates hold only values that they may have.
 pub fn values_allowed(t: &[u8], r: &[u8]) -> bool
+    requires { ⌜ isTable (now t) ≡ true ⌝ }
+    requires { ⌜ recordLength ≤ length (now r) ⌝ }
     ensures { λ b. ⌜ b ≡ valuesAllowed (now (t .entry)) (now (r .entry)) ⌝ }
 {
     let v = wide(variables(t));
@@ -81,11 +83,16 @@ pub fn estimate_allowed(t: &[u8], est: &[u8]) -> bool
     ensures { λ b. ⌜ b ≡ estimateAllowed (now (t .entry)) (now (est .entry)) ⌝ }
 {
     let v = wide(variables(t));
-    (est.len() == v) & all_at_most(est, 0, v, MAX_VALUE as u8)
+    if est.len() != v {
+        return false;
+    }
+    all_at_most(est, 0, v, MAX_VALUE as u8)
 }
 
 // Whether clock c's start time is not after the last time where it is started, and 0 where not.
 fn clock_allowed(r: &[u8], c: u8) -> bool
+    requires { ⌜ recordLength ≤ length (now r) ⌝ }
+    requires { ⌜ c < maxClocks ⌝ }
     ensures { λ b. ⌜ b ≡ clockAt (now (r .entry)) c ⌝ }
 {
     let start = start_of(r, c);
@@ -97,12 +104,13 @@ fn clock_allowed(r: &[u8], c: u8) -> bool
 }
 
 pub fn clocks_allowed(t: &[u8], r: &[u8]) -> bool
+    requires { ⌜ isTable (now t) ≡ true ⌝ }
+    requires { ⌜ recordLength ≤ length (now r) ⌝ }
     ensures { λ b. ⌜ b ≡ clocksAllowed (now (t .entry)) (now (r .entry)) ⌝ }
 {
+    let mut all = true;
     for c in 0..clocks(t) {
-        if !clock_allowed(r, c) {
-            return false;
-        }
+        all = all & clock_allowed(r, c);
     }
-    true
+    all
 }

@@ -149,12 +149,13 @@ fails-of-one f (x ∷ xs) h = go (f x) refl (λ t. fails-of-one f xs t)
         let rest : (i : ℕ) × (i < length xs) × (f (getD xs i 0) ≡ false) = later (rw e at h) in
         (suc (rest .0), omega (arith, rest .1), rest .2)
 
-passes-of-each : (f : ℕ → Bool) (xs : List ℕ) → all f xs ≡ true → (i : ℕ) → i < length xs → f (getD xs i 0) ≡ true
-passes-of-each f [] h i l = absurd (omega arith)
-passes-of-each f (x ∷ xs) h zero l = and-left (f x) (all f xs) h
-passes-of-each f (x ∷ xs) h (suc i) l = passes-of-each f xs (and-right (f x) (all f xs) h) i (omega arith)
+-- a test that all elements of a list pass, each passes
+pub each-passes : {A : Type 0} (f : A → Bool) (xs : List A) (d : A) → all f xs ≡ true → (i : ℕ) → i < length xs → f (getD xs i d) ≡ true
+each-passes f [] d h i l = absurd (omega arith)
+each-passes f (x ∷ xs) d h zero l = and-left (f x) (all f xs) h
+each-passes f (x ∷ xs) d h (suc i) l = each-passes f xs d (and-right (f x) (all f xs) h) i (omega arith)
 
 -- where all others are equal to the first, each of them is
 pub all-first : (x : ℕ) (xs : List ℕ) → all (eqb x) xs ≡ true → (i : ℕ) → i < length (x ∷ xs) → getD (x ∷ xs) i 0 ≡ x
 all-first x xs h zero l = refl
-all-first x xs h (suc i) l = sym (eqb-true x (getD xs i 0) (passes-of-each (eqb x) xs h i (omega arith)))
+all-first x xs h (suc i) l = sym (eqb-true x (getD xs i 0) (each-passes (eqb x) xs 0 h i (omega arith)))

@@ -3,7 +3,7 @@ use Prim.Native.Nat.{ℕ, zero, suc, _+_, _-_, _<_, _≤_}
 use mathlib.Core.Path.{_≡_, refl, sym, ap, _∙_}
 use mathlib.Core.Logic.{_⊎_, inl, inr}
 use mathlib.Core.List.{List, [], _∷_, _++_, map, append-assoc, append-nil}
-use native.Mathlib.Nat.{zero-add, add-zero, add-suc, suc-add}
+use native.Mathlib.Nat.{zero-add, add-zero, add-suc, suc-add, sub-zero}
 use native.Mathlib.Numerals.{add-one}
 use native.Mathlib.Omega.{arith}
 use lib.ListN.{length, getD, take, drop, set, replicate, length-append, length-set, List·getD-map}
@@ -159,17 +159,29 @@ module _ (turn : ℕ → List ℕ) (rest : ℕ → ℕ → List ℕ) (more : (p 
       let k : e - p ≡ 0 = omega arith in
       rw (k, none) at inv
 
--- Bytes copied one by one
+-- Bytes copied one by one: those from the j-th on, stored onto what is there now, give the whole
 bytes-more : (s : List ℕ) (k j n : ℕ) → bytesAt s (k + j) (suc n) ≡ (getD s (k + j) 0 ∷ []) ++ bytesAt s (k + suc j) n
 bytes-more s k j n = rw (add-suc k j)
 
-pub copy-step : (s l m w : List ℕ) (k i j n r : ℕ) → j < n → r ≡ getD s (k + j) 0 → m ≡ set l (i + j) r → sets l (i + j) (bytesAt s (k + j) (n - j)) ≡ w → sets m (i + (j + 1)) (bytesAt s (k + (j + 1)) (n - (j + 1))) ≡ w
-copy-step s l m w k i j n r h b t inv =
-    stores-step (λ x. getD s (k + x) 0 ∷ []) (λ x y. bytesAt s (k + x) y) (bytes-more s k) l m w (i + j) (i + (j + 1)) j n h (rw (t, b)) (omega arith) inv
+pub record Copying (s : List ℕ) (k : ℕ) (l₀ : List ℕ) (i n : ℕ) (l : List ℕ) (j : ℕ) : Type 0 where
+  pub as-long : length l ≡ length l₀
+  pub left : sets l (i + j) (bytesAt s (k + j) (n - j)) ≡ sets l₀ i (bytesAt s k n)
 
-pub copy-end : (s l w : List ℕ) (k i j n : ℕ) → n ≤ j → sets l (i + j) (bytesAt s (k + j) (n - j)) ≡ w → l ≡ w
-copy-end s l w k i j n h inv =
-    stores-end (λ x. getD s (k + x) 0 ∷ []) (λ x y. bytesAt s (k + x) y) (bytes-more s k) l w (i + j) j n refl h inv
+module _ (s : List ℕ) (k : ℕ) (l₀ : List ℕ) (i n : ℕ) where
+  pub copy-starts : Copying s k l₀ i n l₀ 0
+  copy-starts = record { as-long = refl; left = simp (add-zero, sub-zero) }
+
+  module _ (l : List ℕ) (j : ℕ) (copying : Copying s k l₀ i n l j) where
+    pub copy-step : (m : List ℕ) (b : ℕ) → j < n → b ≡ getD s (k + j) 0 → m ≡ set l (i + j) b → length m ≡ length l → Copying s k l₀ i n m (j + 1)
+    copy-step m b h b-is m-is kept =
+        record {
+          as-long = kept ∙ copying .as-long;
+          left = stores-step (λ x. getD s (k + x) 0 ∷ []) (λ x y. bytesAt s (k + x) y) (bytes-more s k) l m _ (i + j) (i + (j + 1)) j n h (rw (m-is, b-is)) (omega arith) (copying .left);
+        }
+
+    pub copy-end : n ≤ j → l ≡ sets l₀ i (bytesAt s k n)
+    copy-end h =
+        stores-end (λ x. getD s (k + x) 0 ∷ []) (λ x y. bytesAt s (k + x) y) (bytes-more s k) l _ (i + j) j n refl h (copying .left)
 
 -- One byte stored again and again
 pub fill-step : (l m w : List ℕ) (i j n b : ℕ) → j < n → m ≡ set l (i + j) b → sets l (i + j) (replicate (n - j) b) ≡ w → sets m (i + (j + 1)) (replicate (n - (j + 1)) b) ≡ w

@@ -1,8 +1,8 @@
-// Total reads and writes of bytes: a place beyond the end reads as 0 and is written by nothing, so
-// that no caller owes a bound.
+// Reads and writes of bytes. Those that ask for no bound are total: a place beyond the end reads as 0
+// and is written by nothing.
 ghost use mathlib.Core.Path.{_≡_};
-ghost use Prim.Native.Nat.{_+_, _<_, _^_};
-ghost use lib.ListN.{getD, set, replicate};
+ghost use Prim.Native.Nat.{_+_, _<_, _≤_, _^_};
+ghost use lib.ListN.{length, getD, set, replicate};
 ghost use lib.Seq.{sets};
 ghost use Rattle.base.specs.Lists.{bytesAt};
 
@@ -20,6 +20,14 @@ pub fn put(s: &mut [u8], i: usize, b: u8)
     if i < s.len() {
         s[i] = b;
     }
+}
+
+// Stores b at place i, which is inside.
+pub fn store(s: &mut [u8], i: usize, b: u8)
+    requires { ⌜ i < length (now s) ⌝ }
+    ensures { λ _. ⌜ now (s .exit) ≡ set (now (s .entry)) i b ⌝ }
+{
+    s[i] = b;
 }
 
 // A byte as a number that indexes.
@@ -40,12 +48,24 @@ pub fn copy(src: &[u8], from: usize, dst: &mut [u8], to: usize, n: usize)
     }
 }
 
-// Stores b at n places, from place `from` of dst on.
+// The same where all of these places are inside.
+pub fn copy_inside(src: &[u8], from: usize, dst: &mut [u8], to: usize, n: usize)
+    requires { ⌜ from + n ≤ length (now src) ⌝ }
+    requires { ⌜ to + n ≤ length (now dst) ⌝ }
+    ensures { λ _. ⌜ now (dst .exit) ≡ sets (now (dst .entry)) to (bytesAt (now (src .entry)) from n) ⌝ }
+{
+    for j in 0..n {
+        let b = src[from + j];
+        store(dst, to + j, b);
+    }
+}
+
+// Stores b at n places, from place `from` of dst on, which are inside.
 pub fn fill(dst: &mut [u8], from: usize, n: usize, b: u8)
-    requires { ⌜ from + n < 2 ^ 64 ⌝ }
+    requires { ⌜ from + n ≤ length (now dst) ⌝ }
     ensures { λ _. ⌜ now (dst .exit) ≡ sets (now (dst .entry)) from (replicate n b) ⌝ }
 {
     for j in 0..n {
-        put(dst, from + j, b);
+        store(dst, from + j, b);
     }
 }

@@ -15,7 +15,9 @@ use Rattle.meaning.specs.Table.{isTable}
 use Rattle.meaning.specs.Record.{estimatePlace, marksPlace, recordLength, waiting, padded, recordBytes}
 use Rattle.meaning.specs.Cycle.{fresh, estimateAllowed, beginRefusal, begunInto}
 use Rattle.meaning.specs.Operations.{Begun}
-use Rattle.meaning.proofs.Records.{Shaped, length-root, begin-tests, begun-fits, begun-bytes, estimate-written, marks-written}
+use Rattle.meaning.proofs.Tables.{table-held, root-there}
+use Rattle.part.proofs.Places.{parts-fit}
+use Rattle.meaning.proofs.Records.{Shaped, length-root, estimate-fits, begin-tests, begun-fits, begun-bytes, estimate-written, marks-written}
 
 -- a record that holds nothing but 0
 padded-zeros : (n k : ℕ) → k ≤ n → padded n (replicate k 0) ≡ replicate n 0
@@ -40,20 +42,34 @@ zeros v k n hv hk hn =
       padded-zeros maxParts n hn,
     )
 
+-- there is room for the record, in it for the estimate and the marks, and the marks are made of a table with a root
+module _ (t est : List ℕ) (room : ℕ) (h : beginRefusal t est room ≡ 0) where
+  table : isTable t ≡ true
+  table = begin-tests t est room h .0
+
+  pub record-room : recordLength ≤ room
+  record-room = leb-true recordLength room (begin-tests t est room h .1 .1 .0)
+
+  module _ (n : ℕ) (kept : n ≡ room) where
+    pub estimate-room : estimatePlace + length est ≤ n
+    estimate-room = omega (arith, record-room, estimate-fits t est (begin-tests t est room h .1 .0) .0, table-held t table .1 .within .variables-fit)
+
+    pub fresh-ready : (isTable t ≡ true) × ((0 < parts t) × (marksPlace + parts t ≤ n))
+    fresh-ready = (table, (root-there t table, omega (arith, record-room, parts-fit t table)))
+
 module _ (t est r : List ℕ) where
   -- the bytes: 0 everywhere, then the estimate, then the marks
   module _ (h : beginRefusal t est (length r) ≡ 0) where
     pub fresh-written : (r₁ r₂ r₃ : List ℕ) → r₁ ≡ sets r 0 (replicate recordLength 0) → r₂ ≡ sets r₁ estimatePlace (bytesAt est 0 (length est)) → r₃ ≡ sets r₂ (marksPlace + 0) (fresh t 0) → r₃ ≡ begunInto t est r
     fresh-written r₁ r₂ r₃ h₁ h₂ h₃ =
-        let whole : length (fresh t 0) ≡ parts t = length-root t (begin-tests t est (length r) h .0) in
+        let whole : length (fresh t 0) ≡ parts t = length-root t (table t est (length r) h) in
         let new : Shaped t est (replicate (clocks t) 0) (replicate (clocks t) 0) (fresh t 0) = begun-fits t est (length r) h whole .shape in
         let zs : List ℕ = replicate (clocks t) 0 in
         let empty : Shaped t (replicate (variables t) 0) zs zs (replicate (parts t) 0) = omega (arith, new, length-replicate {A = ℕ} (variables t) 0, length-replicate {A = ℕ} (parts t) 0) in
         let stored : Shaped t est zs zs (replicate (parts t) 0) = omega (arith, new, length-replicate {A = ℕ} (parts t) 0) in
         let more : List ℕ = drop recordLength r in
-        let room : recordLength ≤ length r = leb-true recordLength (length r) (begin-tests t est (length r) h .1 .1 .0) in
         let a : r₁ ≡ recordBytes waiting 0 (replicate (variables t) 0) zs zs (replicate (parts t) 0) ++ more =
-        h₁ ∙ sets-start r (replicate recordLength 0) room ∙ rw (zeros (variables t) (clocks t) (parts t) (new .variables-fit) (new .clocks-fit) (new .parts-fit)) in
+        h₁ ∙ sets-start r (replicate recordLength 0) (record-room t est (length r) h) ∙ rw (zeros (variables t) (clocks t) (parts t) (new .variables-fit) (new .clocks-fit) (new .parts-fit)) in
         rw (h₃, h₂, a, bytes-all est, estimate-written empty waiting 0 more est (new .estimate-is), marks-written stored waiting 0 more (fresh t 0) whole)
         (sym (begun-bytes t est r h whole))
 

@@ -11,14 +11,22 @@ use Rattle.base.specs.Lists.{flag}
 use Rattle.meaning.specs.declared.Entry.{Entry}
 use Rattle.meaning.specs.declared.Form.the-variants.{Table}
 use Rattle.meaning.specs.Kinds.{kindOf}
-use Rattle.meaning.specs.Program.{entryAt}
-use Rattle.meaning.specs.Table.{endAt, parentAt, insideOf}
+use Rattle.meaning.specs.Program.{parts, entryAt}
+use Rattle.meaning.specs.Table.{endAt, parentAt, insideOf, isTable}
 use Rattle.meaning.specs.Cycle.{beginsIn, begins, freshFrom, fresh}
+use Rattle.part.specs.Held.{Held}
+use Rattle.part.proofs.Places.{parts-fit, row-held}
+use Rattle.meaning.proofs.Tables.{inside}
+use Rattle.meaning.proofs.Nesting.{inside-root, inside-parent}
 use Rattle.begin.specs.Initialising.{turnMark, turnSkip, Turned}
 
--- what the part around p makes of it
+-- what p's parent makes of it
 pub begins-made : (t : List ℕ) (p q : ℕ) (e : Entry) (b : Bool) → q ≡ parentAt t p → e ≡ entryAt Table t q → b ≡ beginsIn (kindOf (e .kind)) q p → b ≡ begins t p
 begins-made t p q e b q-is e-is b-is = b-is ∙ rw (e-is, q-is)
+
+-- the parent of a part other than the root stands in the table
+pub parent-held : (t : List ℕ) (p q : ℕ) → isTable t ≡ true → 0 < p → p < parts t → q ≡ parentAt t p → Held Table t q
+parent-held t p q table some here q-is = row-held t q table (omega (arith, inside-parent t table 0 p (inside-root t table p some here) .0))
 
 -- one part: it is passed over, it begins, or it does not
 module _ (t l m : List ℕ) (from p w : ℕ) (w-is : w ≡ p) where
@@ -47,6 +55,14 @@ fresh-turn : (t : List ℕ) (p n skip : ℕ) → freshFrom t p (suc n) skip ≡ 
 unfolding freshFrom turnMark turnSkip
 fresh-turn t p n zero = refl
 fresh-turn t p n (suc skip) = refl
+
+-- the number after a part's is one of a byte, and the parts inside a part stand in the table
+module _ (t : List ℕ) (q : ℕ) (table : isTable t ≡ true) (here : q < parts t) where
+  pub next-fits : q + 1 < 256
+  next-fits = omega (arith, parts-fit t table)
+
+  pub turn-there : (p e : ℕ) → e ≡ endAt t q → p < e → p < parts t
+  turn-there p e e-is h = omega (arith, inside t table q here .end-within)
 
 -- the loop: its beginning, its turns and its end
 module _ (t : List ℕ) (from : ℕ) where

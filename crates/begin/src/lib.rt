@@ -3,7 +3,7 @@ pub mod initialise;
 
 use crate::initialise::initialise;
 use allowed::values::estimate_allowed;
-use base::copy;
+use base::copy_inside;
 use base::fill;
 use meaning::Answer;
 use meaning::Refusal;
@@ -40,6 +40,6 @@ fn write_fresh(t: &[u8], est: &[u8], r: &mut [u8])
     ensures { λ _. ⌜ now (r .exit) ≡ begunInto (now (t .entry)) (now (est .entry)) (now (r .entry)) ⌝ }
 {
     fill(r, 0, RECORD, 0);
-    copy(est, 0, r, ESTIMATE_PLACE, est.len());
+    copy_inside(est, 0, r, ESTIMATE_PLACE, est.len());
     initialise(t, r, MARKS_PLACE, 0);
 }

@@ -3,7 +3,7 @@ use Prim.Native.Nat.{ℕ, zero, suc, _+_, _-_, _<_, _≤_}
 use native.Mathlib.Nat.{zero-add, sub-zero}
 use native.Mathlib.Numerals.{add-one}
 use native.Mathlib.Omega.{arith}
-use mathlib.Core.Path.{_≡_, refl, sym, ap, _∙_}
+use mathlib.Core.Path.{_≡_, refl, ap, _∙_}
 use mathlib.Core.Logic.{_⊎_, inl, inr}
 use mathlib.Core.Bool.{Bool, true, false, cond}
 use mathlib.Core.List.{List, [], _∷_}
@@ -53,16 +53,13 @@ module _ (g : List ℕ) (v n x : ℕ) (i : lowestContested v (bytesAt g v (n - v
       let k : n - v ≡ suc (n - suc v) = omega arith in
       rw k at i
 
-  pub name-found : (b w : ℕ) → v < n → w ≡ v → b ≡ getD g w 0 → b ≡ contested → answered + v ≡ answered + x
-  name-found b w l w-is b-is h =
-      let c : getD g v 0 ≡ contested = rw (← w-is) (sym b-is ∙ h) in
-      let k : v ≡ x = rw (eq-eqb (getD g v 0) contested c) at (name-next l) in
+  pub name-found : (w : ℕ) → v < n → w ≡ v → getD g w 0 ≡ contested → answered + v ≡ answered + x
+  name-found w l w-is h =
+      let k : v ≡ x = rw (eq-eqb (getD g v 0) contested (rw (← w-is) h)) at (name-next l) in
       rw k
 
-  pub name-passed : (b w : ℕ) → v < n → w ≡ v → b ≡ getD g w 0 → (b ≡ contested → ⊥) → lowestContested (v + 1) (bytesAt g (v + 1) (n - (v + 1))) ≡ x
-  name-passed b w l w-is b-is h =
-      let c : getD g v 0 ≡ b = rw (← w-is) (sym b-is) in
-      rw add-one (rw (ne-eqb (getD g v 0) contested (λ e. h (sym c ∙ e))) at (name-next l))
+  pub name-passed : (w : ℕ) → v < n → w ≡ v → (getD g w 0 ≡ contested → ⊥) → lowestContested (v + 1) (bytesAt g (v + 1) (n - (v + 1))) ≡ x
+  name-passed w l w-is h = rw add-one (rw (ne-eqb (getD g v 0) contested (λ e. h (rw w-is e))) at (name-next l))
 
   pub name-none : n ≤ v → answered + noGoal ≡ answered + x
   unfolding lowestContested

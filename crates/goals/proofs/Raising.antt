@@ -201,11 +201,15 @@ module _ (t g : List ℕ) (p m : ℕ) (e : Entry) (x y : Bool) (e-is : e ≡ ent
   pub part-passed : (x && y) ≡ false → g ≡ raisedBy g (leafAt t p m)
   part-passed b = sym (part-is ∙ rw b)
 
-  pub raise-fits : isTable t ≡ true → p < parts t → (x && y) ≡ true → value (e .operand) ≤ maxValue
-  raise-fits table l b =
-      let k : isKind GOAL (entryAt Table t p) ≡ true = goal-at ∙ and-right x y b in
-      let v : value (e .operand) ≡ value (entryAt Table t p .operand) = ap (λ (a : Entry). value (a .operand)) e-is in
-      rw v (table-fits t table p l k .1)
+  module _ (table : isTable t ≡ true) (l : p < parts t) (b : (x && y) ≡ true) where
+    goal-fitting : (e .operand .b1 < variables t) × (value (e .operand) ≤ maxValue)
+    goal-fitting = rw e-is (table-fits t table p l (goal-at ∙ and-right x y b))
+
+    pub raise-inside : variables t ≤ length g → e .operand .b1 < length g
+    raise-inside room = omega (arith, goal-fitting .0)
+
+    pub raise-fits : value (e .operand) ≤ maxValue
+    raise-fits = goal-fitting .1
 
 -- a value as a byte of its own
 pub joined-none : (b x : ℕ) → b ≡ noGoal → x ≡ joined b x

@@ -1,7 +1,5 @@
 // The goal bytes, in one pass over the parts.
-use base::at;
 use base::fill;
-use base::put;
 use base::wide;
 use meaning::Entry;
 use meaning::Form;
@@ -23,7 +21,7 @@ ghost use Rattle.meaning.specs.Sizes.{maxValue};
 ghost use Rattle.meaning.specs.Kinds.{GOAL, value};
 ghost use Rattle.meaning.specs.Program.{parts, variables};
 ghost use Rattle.meaning.specs.Table.{isTable};
-ghost use Rattle.meaning.specs.Record.{marksPlace, marksIn};
+ghost use Rattle.meaning.specs.Record.{marksPlace, recordLength, marksIn};
 ghost use Rattle.meaning.specs.Cycle.{isKind, leavesFrom, goalBytes};
 ghost use Rattle.goals.specs.Raised.{joined, raised, raisedBy, leafAt};
 
@@ -50,16 +48,20 @@ fn joined(b: u8, x: u8) -> u8
 // Adds the value of one GOAL.
 fn raise(g: &mut [u8], o: Operand)
     requires { ⌜ value o ≤ maxValue ⌝ }
+    requires { ⌜ o .b1 < length (now g) ⌝ }
     ensures { λ _. ⌜ now (g .exit) ≡ raised (now (g .entry)) o ⌝ }
 {
     let v = wide(o.b1);
     let x = value(o) as u8;
-    put(g, v, joined(at(g, v), x));
+    let b = g[v];
+    g[v] = joined(b, x);
 }
 
 // Adds the value of part p where it is a marked GOAL.
 fn raise_part(t: &[u8], r: &[u8], g: &mut [u8], p: Number)
     requires { ⌜ isTable (now t) ≡ true ⌝ }
+    requires { ⌜ recordLength ≤ length (now r) ⌝ }
+    requires { ⌜ variables (now t) ≤ length (now g) ⌝ }
     requires { ⌜ p < parts (now t) ⌝ }
     ensures { λ _. ⌜ now (g .exit) ≡ raisedBy (now (g .entry)) (leafAt (now (t .entry)) p (getD (now (r .entry)) (marksPlace + p) 0)) ⌝ }
 {
@@ -73,6 +75,8 @@ fn raise_part(t: &[u8], r: &[u8], g: &mut [u8], p: Number)
 // Adds the values of all marked GOALs.
 fn raise_all(t: &[u8], r: &[u8], g: &mut [u8])
     requires { ⌜ isTable (now t) ≡ true ⌝ }
+    requires { ⌜ recordLength ≤ length (now r) ⌝ }
+    requires { ⌜ variables (now t) ≤ length (now g) ⌝ }
     ensures { λ _. ⌜ now (g .exit) ≡ raisedBy (now (g .entry)) (leavesFrom (now (t .entry)) 0 (marksIn (now (t .entry)) (now (r .entry)))) ⌝ }
 {
     for p in 0..parts(t) {
@@ -83,6 +87,7 @@ fn raise_all(t: &[u8], r: &[u8], g: &mut [u8])
 // Writes the goal bytes of the program's variables.
 pub fn write_goals(t: &[u8], r: &[u8], g: &mut [u8])
     requires { ⌜ isTable (now t) ≡ true ⌝ }
+    requires { ⌜ recordLength ≤ length (now r) ⌝ }
     requires { ⌜ variables (now t) ≤ length (now g) ⌝ }
     ensures { λ _. ⌜ now (g .exit) ≡ sets (now (g .entry)) 0 (goalBytes (variables (now (t .entry))) (leavesFrom (now (t .entry)) 0 (marksIn (now (t .entry)) (now (r .entry))))) ⌝ }
 {

@@ -4,7 +4,7 @@ use native.Mathlib.Nat.{add-zero, zero-add, suc-add}
 use native.Mathlib.Numerals.{add-one}
 use native.Mathlib.Omega.{arith}
 use mathlib.Core.Path.{_≡_, refl, sym, ap, _∙_}
-use mathlib.Core.Logic.{_⊎_, inl, inr}
+use mathlib.Core.Logic.{_⊎_, inl, inr, ⊎-map}
 use mathlib.Core.Bool.{Bool, true, false, cond, not, false≢true}
 use mathlib.Core.List.{List, [], _∷_}
 use lib.Dec.{eqb, ltb}
@@ -24,11 +24,13 @@ use Rattle.meaning.specs.Table.{kindAt, operandOf, endAt, nextAt, insideOf, isT
 use Rattle.meaning.specs.Record.{marksPlace, lastTime, marksIn, isMark}
 use Rattle.meaning.specs.Conditions.{Situation, reached, satisfied}
 use Rattle.meaning.specs.Cycle.{freshFrom, fresh, endsIf, fate, begun, applied, settledFrom, settledMarks, situation}
-use Rattle.meaning.proofs.Tables.{Later, inside, choice-inside, table-held}
+use Rattle.meaning.proofs.Tables.{Later, inside, choice-inside}
 use Rattle.meaning.proofs.Records.{length-fresh, length-settled}
+use Rattle.part.specs.Held.{Held}
+use Rattle.part.proofs.Places.{parts-fit, row-held}
 use Rattle.marks.specs.declared.settled.Lowest.{Lowest}
 use Rattle.marks.specs.Lowest.{lowest}
-use Rattle.marks.specs.Settling.{markAfter, follower, marked, lowestWith, turnFate, turnMarks, turnLowest}
+use Rattle.marks.specs.Settling.{markAfter, follower, Fated, marked, lowestWith, turnFate, turnMarks, turnLowest}
 use Rattle.marks.proofs.Lowest.{lowest-next, lowest-from, lowest-within, marked-inside}
 
 -- part q stands from part p on, and ends among the first n parts
@@ -84,11 +86,6 @@ module _ (t : List ℕ) (table : isTable t ≡ true) where
       let i = inside t table q b in
       record { from = a; before = i .end-after; within = i .end-within }
 
-  parts-fit : parts t ≤ maxParts
-  parts-fit =
-      let x = table-held t table in
-      omega (arith, x .1 .parts-are, x .1 .within .size-fits)
-
   -- what a fate initialises stands in the table
   fate-fits : (s : Situation) (p : ℕ) (o : Operand) (b a : Bool) (f : Fate) → p < parts t → f ≡ fate s (kindAt t p) o b a → Fits t p (parts t) f
   fate-fits s p o b a Stays l e = tt
@@ -104,6 +101,33 @@ module _ (t : List ℕ) (table : isTable t ≡ true) where
   fate-fits s p o b a Second l e =
       let c = choice-inside t table p l (choice-takes s (kindAt t p) o b a (ap takes (sym e))) in
       stands p (endAt t (suc p)) (omega (arith, inside t table (suc p) (c .0) .end-after)) (c .1)
+
+  module _ (r est : List ℕ) (p : ℕ) (low : Lowest) (f : Fate) (here : p < parts t) (f-is : f ≡ turnFate t r est p low) where
+    -- what a part's fate initialises stands in the table
+    pub fated : Fated t p f
+    unfolding turnFate
+    fated =
+        let s : Situation = situation t r est (lastTime r) in
+        record {
+          second = λ e. choice-inside t table p here (choice-takes s (kindAt t p) (operandOf t p) _ _ (ap takes (sym f-is ∙ e))) .0;
+          follows = ⊎-map (λ e. e) (λ st. omega (arith, st .before, st .within)) (fits-or-none t p (parts t) f (fate-fits s p (operandOf t p) _ _ f here f-is));
+        }
+
+    -- as what the code takes for it does
+    pub fated-there : (q : ℕ) → q ≡ follower t p f → (q ≡ noPart) ⊎ (q < parts t)
+    fated-there q q-is = rw q-is (fated .follows)
+
+  -- a part's first child has a number, and where a CHOICE takes its second child it holds its first
+  pub next-fits : (p : ℕ) → p < parts t → p + 1 < 256
+  next-fits p h = omega (arith, parts-fit t table)
+
+  pub second-held : (p : ℕ) (f : Fate) → Fated t p f → f ≡ Second → Held Table t (p + 1)
+  second-held p f fits e = row-held t (p + 1) table (omega (arith, fits .second e))
+
+-- a part, unless there is none
+pub is-there : (q n : ℕ) → (q ≡ noPart) ⊎ (q < n) → (q ≡ noPart → ⊥) → q < n
+is-there q n (inl e) h = absurd (h e)
+is-there q n (inr l) h = l
 
 -- the marks from part p on once it has mark x and part q, where it is one, is initialised
 abbrev placed : List ℕ → ℕ → ℕ → ℕ → List ℕ → List ℕ
@@ -256,6 +280,10 @@ module _ (t r est m₀ : List ℕ) where
 
   pub standing-length : (m : List ℕ) (p : ℕ) (low : Lowest) → Standing t r est m₀ p m low → length m ≡ length m₀
   standing-length m p low standing = ap length (standing .marks-are) ∙ simp length-sets
+
+  -- there is room for the marks of all parts all the while
+  pub standing-room : (m : List ℕ) (p : ℕ) (low : Lowest) → parts t ≤ length m₀ → Standing t r est m₀ p m low → parts t ≤ length m
+  standing-room m p low room standing = omega (arith, standing-length m p low standing)
 
 -- what one turn stores, and the lowest marked parts that it gives
 module _ (t r est : List ℕ) (p : ℕ) (low : Lowest) (b : Bool) (b-is : b ≡ isMark (getD r (marksPlace + p) 0)) where

@@ -1,5 +1,7 @@
 -- The settling of one part, as the code makes it on the marks of all parts while it goes from the last part down.
-use Prim.Native.Nat.{ℕ, suc, _+_}
+use Prim.Native.Nat.{ℕ, suc, _+_, _<_}
+use mathlib.Core.Path.{_≡_}
+use mathlib.Core.Logic.{_⊎_}
 use mathlib.Core.Bool.{cond}
 use mathlib.Core.List.{List}
 use lib.Dec.{eqb, ltb}
@@ -8,6 +10,7 @@ use lib.Seq.{sets}
 use Rattle.meaning.specs.declared.Fate.{Fate}
 use Rattle.meaning.specs.declared.Fate.the-variants.{Stays, Ends, First, Second}
 use Rattle.meaning.specs.Sizes.{noPart}
+use Rattle.meaning.specs.Program.{parts}
 use Rattle.meaning.specs.Table.{kindAt, operandOf, endAt, nextAt}
 use Rattle.meaning.specs.Record.{marksPlace, lastTime, isMark}
 use Rattle.meaning.specs.Cycle.{fresh, fate, situation}
@@ -26,6 +29,11 @@ follower t p Stays = noPart
 follower t p Ends = nextAt t p
 follower t p First = suc p
 follower t p Second = endAt t (suc p)
+
+-- a fate that part p of a table can have: what it initialises stands in the table, since only a CHOICE takes a child
+pub record Fated (t : List ℕ) (p : ℕ) (f : Fate) : Type 0 where
+  pub second : f ≡ Second → suc p < parts t
+  pub follows : (follower t p f ≡ noPart) ⊎ (follower t p f < parts t)
 
 -- the marks of all parts once part p has mark x and part q, where it is one, is initialised
 unfoldable pub marked : List ℕ → ℕ → ℕ → ℕ → List ℕ → List ℕ

@@ -7,8 +7,13 @@ use record::conditions::reached;
 use record::conditions::satisfied;
 use record::fields::last_time;
 ghost use mathlib.Core.Path.{_≡_};
-ghost use Rattle.meaning.specs.Kinds.{CHOICE, kindOf};
-ghost use Rattle.meaning.specs.Record.{lastTime};
+ghost use mathlib.Core.Bool.{true};
+ghost use Prim.Native.Nat.{_≤_};
+ghost use lib.ListN.{length};
+ghost use Rattle.meaning.specs.Sizes.{maxClocks};
+ghost use Rattle.meaning.specs.Kinds.{CHOICE, kindOf, conditionAllowed};
+ghost use Rattle.meaning.specs.Program.{variables, clocks, allowedEntry};
+ghost use Rattle.meaning.specs.Record.{recordLength, lastTime};
 ghost use Rattle.meaning.specs.Cycle.{endsIf, fate, situation};
 
 fn ends_if(b: bool) -> Fate
@@ -20,6 +25,10 @@ fn ends_if(b: bool) -> Fate
 // A CHOICE with nothing marked inside before the settling is deciding, and takes a child; any other
 // ends with the branch that it took.
 fn of_choice(t: &[u8], r: &[u8], est: &[u8], o: Operand, before: bool, after: bool) -> Fate
+    requires { ⌜ recordLength ≤ length (now r) ⌝ }
+    requires { ⌜ variables (now t) ≤ length (now est) ⌝ }
+    requires { ⌜ clocks (now t) ≤ maxClocks ⌝ }
+    requires { ⌜ conditionAllowed (variables (now t)) (clocks (now t)) o ≡ true ⌝ }
     ensures { λ f. ⌜ f ≡ fate (situation (now (t .entry)) (now (r .entry)) (now (est .entry)) (lastTime (now (r .entry)))) CHOICE o before after ⌝ }
 {
     if before {
@@ -35,6 +44,10 @@ fn of_choice(t: &[u8], r: &[u8], est: &[u8], o: Operand, before: bool, after: bo
 // The fate of a marked part; `before` and `after` say whether something is marked inside it, before
 // and after the settling of what is inside.
 pub fn fate(t: &[u8], r: &[u8], est: &[u8], part: Entry, before: bool, after: bool) -> Fate
+    requires { ⌜ recordLength ≤ length (now r) ⌝ }
+    requires { ⌜ variables (now t) ≤ length (now est) ⌝ }
+    requires { ⌜ clocks (now t) ≤ maxClocks ⌝ }
+    requires { ⌜ allowedEntry (variables (now t)) (clocks (now t)) part ≡ true ⌝ }
     ensures { λ f. ⌜ f ≡ fate (situation (now (t .entry)) (now (r .entry)) (now (est .entry)) (lastTime (now (r .entry)))) (kindOf (part .kind)) (part .operand) before after ⌝ }
 {
     let kind = part.kind;

@@ -2,7 +2,7 @@
 // part is settled before it. Marks before the settling are read from the record and those after it
 // are written to a list of their own, so that a part marked by this settling is not judged by it.
 use crate::fates::fate;
-use base::put;
+use base::store;
 use base::wide;
 use begin::initialise::initialise;
 use meaning::Fate;
@@ -15,13 +15,17 @@ use part::held::parts;
 use record::fields::is_marked;
 use walk::walker::entry_at;
 ghost use mathlib.Core.Path.{_≡_};
+ghost use mathlib.Core.Logic.{_⊎_};
 ghost use mathlib.Core.Bool.{true};
-ghost use Prim.Native.Nat.{_<_};
+ghost use Prim.Native.Nat.{_<_, _≤_};
+ghost use lib.ListN.{length};
 ghost use lib.Seq.{sets};
 ghost use Rattle.meaning.specs.Sizes.{noPart};
+ghost use Rattle.meaning.specs.Program.{parts, variables};
 ghost use Rattle.meaning.specs.Table.{isTable};
+ghost use Rattle.meaning.specs.Record.{recordLength};
 ghost use Rattle.meaning.specs.Cycle.{settledMarks};
-ghost use Rattle.marks.specs.Settling.{markAfter, follower, marked, lowestWith, turnFate, turnMarks, turnLowest};
+ghost use Rattle.marks.specs.Settling.{markAfter, follower, Fated, marked, lowestWith, turnFate, turnMarks, turnLowest};
 
 // The lowest marked part after a part, by the marks before and after the settling; the number of
 // parts where none is marked. It spares looking into a part: something is marked inside it where
@@ -45,7 +49,9 @@ fn mark_after(f: Fate) -> u8
 
 // The part that is initialised with a fate of part p, or none.
 fn follower(t: &[u8], p: Number, f: Fate) -> Number
-    requires { ⌜ p < noPart ⌝ }
+    requires { ⌜ isTable (now t) ≡ true ⌝ }
+    requires { ⌜ p < parts (now t) ⌝ }
+    requires { ⌜ Fated (now t) p f ⌝ }
     ensures { λ q. ⌜ q ≡ follower (now (t .entry)) p f ⌝ }
 {
     match f {
@@ -58,9 +64,13 @@ fn follower(t: &[u8], p: Number, f: Fate) -> Number
 
 // Stores part p's mark, and initialises part q where it is one.
 fn mark(t: &[u8], m: &mut [u8], p: Number, x: u8, q: Number)
+    requires { ⌜ isTable (now t) ≡ true ⌝ }
+    requires { ⌜ p < parts (now t) ⌝ }
+    requires { ⌜ (q ≡ noPart) ⊎ (q < parts (now t)) ⌝ }
+    requires { ⌜ parts (now t) ≤ length (now m) ⌝ }
     ensures { λ _. ⌜ now (m .exit) ≡ marked (now (t .entry)) p x q (now (m .entry)) ⌝ }
 {
-    put(m, wide(p), x);
+    store(m, wide(p), x);
     if q != NO_PART {
         initialise(t, m, 0, q);
     }
@@ -77,6 +87,10 @@ fn lowest_with(p: Number, x: u8, q: Number, low: Number) -> Number
 }
 
 fn turn_fate(t: &[u8], r: &[u8], est: &[u8], p: Number, low: Lowest) -> Fate
+    requires { ⌜ isTable (now t) ≡ true ⌝ }
+    requires { ⌜ recordLength ≤ length (now r) ⌝ }
+    requires { ⌜ variables (now t) ≤ length (now est) ⌝ }
+    requires { ⌜ p < parts (now t) ⌝ }
     ensures { λ f. ⌜ f ≡ turnFate (now (t .entry)) (now (r .entry)) (now (est .entry)) p low ⌝ }
 {
     let part = entry_at(t, Form::Table, p);
@@ -86,12 +100,16 @@ fn turn_fate(t: &[u8], r: &[u8], est: &[u8], p: Number, low: Lowest) -> Fate
 
 // Settles part p, and gives the lowest marked parts from p on.
 fn turn(t: &[u8], r: &[u8], est: &[u8], m: &mut [u8], p: Number, low: Lowest) -> Lowest
-    requires { ⌜ p < noPart ⌝ }
+    requires { ⌜ isTable (now t) ≡ true ⌝ }
+    requires { ⌜ recordLength ≤ length (now r) ⌝ }
+    requires { ⌜ variables (now t) ≤ length (now est) ⌝ }
+    requires { ⌜ parts (now t) ≤ length (now m) ⌝ }
+    requires { ⌜ p < parts (now t) ⌝ }
     ensures { λ l. ⌜ l ≡ turnLowest (now (t .entry)) (now (r .entry)) (now (est .entry)) p low ⌝ }
     ensures { λ _. ⌜ now (m .exit) ≡ turnMarks (now (t .entry)) (now (r .entry)) (now (est .entry)) p low (now (m .entry)) ⌝ }
 {
     if !is_marked(r, p) {
-        put(m, wide(p), 0);
+        store(m, wide(p), 0);
         return low;
     }
     let f = turn_fate(t, r, est, p, low);
@@ -107,6 +125,9 @@ fn turn(t: &[u8], r: &[u8], est: &[u8], m: &mut [u8], p: Number, low: Lowest) ->
 // Stores the marks after the settling at the beginning of m.
 pub fn settle_marks(t: &[u8], r: &[u8], est: &[u8], m: &mut [u8])
     requires { ⌜ isTable (now t) ≡ true ⌝ }
+    requires { ⌜ recordLength ≤ length (now r) ⌝ }
+    requires { ⌜ variables (now t) ≤ length (now est) ⌝ }
+    requires { ⌜ parts (now t) ≤ length (now m) ⌝ }
     ensures { λ _. ⌜ now (m .exit) ≡ sets (now (m .entry)) 0 (settledMarks (now (t .entry)) (now (r .entry)) (now (est .entry))) ⌝ }
 {
     let n = parts(t);

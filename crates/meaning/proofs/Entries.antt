@@ -4,16 +4,18 @@ use native.Mathlib.Nat.{zero-add, add-zero, add-suc, suc-add}
 use native.Mathlib.Omega.{arith}
 use mathlib.Core.Path.{_≡_, ap, _∙_}
 use mathlib.Core.Bool.{Bool, true, _&&_}
+use mathlib.Core.Logic.{_⊎_, inl, inr}
 use mathlib.Core.List.{List}
 use lib.Dec.{eqb, leb, ltb}
 use lib.ListN.{length, getD}
 use borrow.Author.Tests.{eqb-true, leb-true, ltb-true}
 use Rattle.base.specs.Lists.{all}
 use Rattle.base.proofs.Lists.{and-left, and-right, length-tabulate, getD-tabulate}
+use Rattle.meaning.specs.declared.Operand.{Operand}
 use Rattle.meaning.specs.declared.Entry.{Entry}
 use Rattle.meaning.specs.declared.Form.the-variants.{Table}
 use Rattle.meaning.specs.Sizes.{maxValue}
-use Rattle.meaning.specs.Kinds.{GOAL, kindOf, numberOf, value, goalAllowed, operandAllowed}
+use Rattle.meaning.specs.Kinds.{GOAL, START, kindOf, numberOf, value, testOf, testAllowed, conditionAllowed, goalAllowed, startAllowed, operandAllowed}
 use Rattle.meaning.specs.Program.{parts, variables, clocks, entryAt, entriesFrom, entries, allowedEntry}
 use Rattle.meaning.specs.Table.{isTable}
 use Rattle.meaning.specs.Cycle.{isKind, valuesFor, goalByte, goalBytes}
@@ -34,6 +36,10 @@ entry-allowed t h p l =
     let (q, held, e) = table-held t h in
     rw zero-add at (entry-passes (allowedEntry (variables t) (clocks t)) t 0 (parts t) p (rw (held .entries-are) (held .within .entries-allowed)) l)
 
+-- so is what is read as the entry of a part
+pub read-allowed : (t : List ℕ) (p : ℕ) (e : Entry) → isTable t ≡ true → p < parts t → e ≡ entryAt Table t p → allowedEntry (variables t) (clocks t) e ≡ true
+read-allowed t p e table here e-is = rw e-is (entry-allowed t table p here)
+
 -- an allowed GOAL names a variable of the program and a value of at most 250, so that no goal byte is taken for another
 pub goal-fits : (v k : ℕ) (e : Entry) → allowedEntry v k e ≡ true → isKind GOAL e ≡ true → (e .operand .b1 < v) × (value (e .operand) ≤ maxValue)
 unfolding allowedEntry operandAllowed goalAllowed kindOf numberOf
@@ -42,6 +48,33 @@ goal-fits v k e a g =
     let allowed : (eqb (e .operand .b0) 0 && (ltb (e .operand .b1) v && leb (value (e .operand)) maxValue)) ≡ true = rw is-goal at a in
     let named = and-right (eqb (e .operand .b0) 0) (ltb (e .operand .b1) v && leb (value (e .operand)) maxValue) allowed in
     (ltb-true (e .operand .b1) v (and-left (ltb (e .operand .b1) v) (leb (value (e .operand)) maxValue) named), leb-true (value (e .operand)) maxValue (and-right (ltb (e .operand .b1) v) (leb (value (e .operand)) maxValue) named))
+
+-- an allowed START names a clock of the program
+pub start-fits : (v k : ℕ) (e : Entry) → allowedEntry v k e ≡ true → isKind START e ≡ true → e .operand .b1 < k
+unfolding allowedEntry operandAllowed startAllowed kindOf numberOf
+start-fits v k e a s =
+    let is-start : e .kind ≡ 2 = eqb-true (e .kind) 2 s in
+    let named = and-right (eqb (e .operand .b0) 0) (ltb (e .operand .b1) k && eqb (value (e .operand)) 0) (rw is-start at a) in
+    ltb-true (e .operand .b1) k (and-left (ltb (e .operand .b1) k) (eqb (value (e .operand)) 0) named)
+
+-- an allowed WAIT, MAINTAIN or CHOICE has an allowed condition
+pub condition-fits : (v k : ℕ) (e : Entry) → allowedEntry v k e ≡ true → (e .kind ≡ 3) ⊎ ((e .kind ≡ 6) ⊎ (e .kind ≡ 7)) → conditionAllowed v k (e .operand) ≡ true
+unfolding allowedEntry operandAllowed kindOf
+condition-fits v k e a (inl h) = rw h at a
+condition-fits v k e a (inr (inl h)) = rw h at a
+condition-fits v k e a (inr (inr h)) = rw h at a
+
+-- an allowed condition asks for a variable of the program in tests 1 and 2, and for a clock of it in tests 3 and 4
+module _ (v k : ℕ) (o : Operand) (a : conditionAllowed v k o ≡ true) where
+  pub variable-tested : (o .b0 ≡ 1) ⊎ (o .b0 ≡ 2) → o .b1 < v
+  unfolding conditionAllowed testOf testAllowed
+  variable-tested (inl h) = ltb-true (o .b1) v (and-left (ltb (o .b1) v) (leb (value o) maxValue) (rw h at a))
+  variable-tested (inr h) = ltb-true (o .b1) v (and-left (ltb (o .b1) v) (leb (value o) maxValue) (rw h at a))
+
+  pub clock-tested : (o .b0 ≡ 3) ⊎ (o .b0 ≡ 4) → o .b1 < k
+  unfolding conditionAllowed testOf testAllowed
+  clock-tested (inl h) = ltb-true (o .b1) k (rw h at a)
+  clock-tested (inr h) = ltb-true (o .b1) k (rw h at a)
 
 -- one goal byte a variable
 pub length-goals : (v : ℕ) (es : List Entry) → length (goalBytes v es) ≡ v

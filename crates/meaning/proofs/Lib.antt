@@ -4,6 +4,7 @@ pub mod Parsing
 pub mod Files
 pub mod Tables
 pub mod Lies
+pub mod Nesting
 pub mod Entries
 pub mod Records
 pub mod Refusals

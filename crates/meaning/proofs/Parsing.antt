@@ -238,6 +238,14 @@ makes e v c ps k a l =
     let m : (p : Part) × (make (kindOf (e .kind)) (e .operand) (take (arityOf e) ps) ≡ some p) = makes-part v c (kindOf (e .kind)) (e .operand) (take (arityOf e) ps) (unfold arityOf in length-take-le (arityOf e) ps l) a in
     (m .0 ∷ drop (arityOf e) ps, rw (le-leb (arityOf e) (length ps) l, m .1))
 
+-- and where the first of those parts are as many as it takes, they are its children
+pub makes-of : (e : Entry) (v c : ℕ) (cs ps : List Part) → allowedEntry v c e ≡ true → length cs ≡ arityOf e → (p : Part) × (children p ≡ cs) × (place e (cs ++ ps) ≡ some (p ∷ ps))
+unfolding allowedEntry place
+makes-of e v c cs ps a l =
+    let m : (p : Part) × (make (kindOf (e .kind)) (e .operand) cs ≡ some p) = makes-part v c (kindOf (e .kind)) (e .operand) cs (unfold arityOf in l) a in
+    let b : leb (length cs) (length (cs ++ ps)) ≡ true = le-leb (length cs) (length (cs ++ ps)) (rw length-append (omega arith)) in
+    (m .0, made (kindOf (e .kind)) (e .operand) cs (m .0) (m .1) .1, rw (← l, b, take-append-seam, drop-append-seam, m .1))
+
 Reads : Part → Type 0
 Reads p = (es : List Entry) (ps : List Part) → trees es ≡ some ps → trees (preorder p ++ es) ≡ some (p ∷ ps)
 

@@ -10,8 +10,8 @@ use lib.ListN.{length, getD, take, drop, set, replicate, length-append, length-r
 use lib.Seq.{sets, length-sets}
 use borrow.Author.Tests.{le-leb, leb-true, eqb-true}
 use Rattle.base.specs.Lists.{sum, join, flat, all, any, tabulate, flag, bytesAt}
-use Rattle.base.proofs.Lists.{and-left, Passed, none-fails, cond-map, cond-same, length-pieces, length-tabulate, getD-tabulate, all-tabulate, all-replicate}
-use Rattle.base.proofs.Stores.{sets-start, drop-front, bytes-front, drop-join, sets-join, bytes-join}
+use Rattle.base.proofs.Lists.{and-left, and-right, each-passes, Passed, none-fails, cond-map, cond-same, length-pieces, length-tabulate, getD-tabulate, all-tabulate, all-replicate}
+use Rattle.base.proofs.Stores.{length-bytes, sets-start, drop-front, bytes-front, drop-join, sets-join, bytes-join}
 use Rattle.meaning.specs.declared.Entry.{Entry}
 use Rattle.meaning.specs.Sizes.{maxParts, maxVariables, maxClocks, maxValue, timeWidth, littleEndian, valueFrom}
 use Rattle.meaning.specs.Program.{parts, variables, clocks}
@@ -364,6 +364,27 @@ module _ {t : List ℕ} {time : ℕ} {est started starts marks : List ℕ} (fits
 pub allowed-long : (t r : List ℕ) → recordAllowed t r ≡ true → recordLength ≤ length r
 unfolding recordAllowed
 allowed-long t r h = leb-true recordLength (length r) (and-left (leb recordLength (length r)) (restZero t r && (valuesAllowed t r && (clocksAllowed t r && (rootAllowed (phaseOf r) (marksIn t r) && partsAllowed t (phaseOf r) 0 (marksIn t r))))) h)
+
+-- and stays so while its length stays
+pub still-long : (t r s : List ℕ) → recordAllowed t r ≡ true → length s ≡ length r → recordLength ≤ length s
+still-long t r s allowed same = rw same (allowed-long t r allowed)
+
+-- a clock of an allowed record: its flag is 0 or 1, and its start is allowed beside it
+pub allowed-clock : (t r : List ℕ) → recordAllowed t r ≡ true → (c : ℕ) → c < clocks t
+    → (getD (startedIn t r) c 0 ≤ 1) × (clockAllowed (lastTime r) (getD (startedIn t r) c 0) (getD (startsIn t r) c 0) ≡ true)
+unfolding recordAllowed valuesAllowed clocksAllowed
+allowed-clock t r h c l =
+    let marks : Bool = rootAllowed (phaseOf r) (marksIn t r) && partsAllowed t (phaseOf r) 0 (marksIn t r) in
+    let rest : Bool = clocksAllowed t r && marks in
+    let others : Bool = all (λ b. leb b 1) (marksIn t r) && all (λ b. leb b maxValue) (estimateIn t r) in
+    let flags : Bool = all (λ b. leb b 1) (startedIn t r) in
+    let tested : ℕ → Bool = λ c. clockAllowed (lastTime r) (getD (startedIn t r) c 0) (getD (startsIn t r) c 0) in
+    let later = and-right (restZero t r) (valuesAllowed t r && rest) (and-right (leb recordLength (length r)) (restZero t r && (valuesAllowed t r && rest)) h) in
+    let small : flags ≡ true = and-left flags others (and-right (leb (phaseOf r) finished) (flags && others) (and-left (valuesAllowed t r) rest later)) in
+    let right : all tested (tabulate (λ c. c) 0 (clocks t)) ≡ true = and-left (clocksAllowed t r) marks (and-right (valuesAllowed t r) rest later) in (
+      leb-true (getD (startedIn t r) c 0) 1 (each-passes (λ b. leb b 1) (startedIn t r) 0 small c (rw length-bytes l)),
+      rw (getD-tabulate (λ c. c) 0 (clocks t) c 0 l, zero-add) at (each-passes tested (tabulate (λ c. c) 0 (clocks t)) 0 right c (rw length-tabulate l)),
+    )
 
 -- an estimate that is allowed has a value for each variable, none too large
 pub estimate-fits : (t est : List ℕ) → estimateAllowed t est ≡ true → (length est ≡ variables t) × (all (λ x. leb x maxValue) est ≡ true)

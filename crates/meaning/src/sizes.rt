@@ -23,12 +23,7 @@ pub const LINKS: usize = 3;
 
 pub const ROW: usize = 8;
 
-// Room for the links of the most parts.
-pub const MAX_LINKS: usize = 600;
-
-// Room for a byte for each of the most clocks, and of the most parts.
-pub const MAX_FLAGS: usize = 16;
-
+// Room for a byte for each of the most parts.
 pub const MAX_MARKS: usize = 200;
 
 // How long the longest file and the longest table are.

@@ -4,26 +4,29 @@ use native.Mathlib.Nat.{sub-zero}
 use native.Mathlib.Numerals.{add-one}
 use native.Mathlib.Omega.{arith}
 use mathlib.Core.Path.{_≡_, refl, sym, ap, _∙_}
-use mathlib.Core.Logic.{inr}
+use mathlib.Core.Logic.{inl, inr}
 use mathlib.Core.Bool.{Bool, true, false, not, cond, _&&_}
 use mathlib.Core.List.{List, [], _∷_}
 use lib.ListN.{length, getD, take, drop, set}
 use lib.Seq.{sets, set-getD, getD-set-other, take-at}
+use borrow.Author.Tests.{eqb-true, not-false}
 use Rattle.base.specs.Lists.{bytesAt}
-use Rattle.base.proofs.Lists.{tabulate-same}
+use Rattle.base.proofs.Lists.{and-right, tabulate-same}
 use Rattle.base.proofs.Stores.{length-bytes, bytes-same, drop-bytes, bytes-sets-out}
 use Rattle.meaning.specs.declared.Operand.{Operand}
 use Rattle.meaning.specs.declared.Entry.{Entry}
 use Rattle.meaning.specs.declared.Outcome.{Outcome}
 use Rattle.meaning.specs.declared.Form.the-variants.{Table}
 use Rattle.meaning.specs.Sizes.{maxVariables, maxClocks, timeWidth, valueFrom}
-use Rattle.meaning.specs.Kinds.{MAINTAIN}
+use Rattle.meaning.specs.Kinds.{MAINTAIN, numberOf, conditionAllowed}
 use Rattle.meaning.specs.Program.{parts, variables, clocks, entryAt}
 use Rattle.meaning.specs.Table.{insideOf, isTable}
 use Rattle.meaning.specs.Conditions.{Situation, outcome, isViolated, violated}
 use Rattle.meaning.specs.Record.{estimatePlace, startedPlace, startsPlace, marksPlace, recordLength, timeAt, estimateIn, startedIn, startsIn, isMark}
 use Rattle.meaning.specs.Cycle.{isKind, breaks, checkedFrom, checkedMarks, situation}
+use Rattle.meaning.proofs.Entries.{read-allowed, condition-fits}
 use Rattle.meaning.proofs.Tables.{table-held}
+use Rattle.record.proofs.Marks.{mark-inside}
 use Rattle.offer.specs.Turns.{judging, turned, skipAfter, checkedRest}
 
 -- Records that hold the same between time and marks judge the same
@@ -76,6 +79,11 @@ module _ (t : List ℕ) (s : Situation) (p m : ℕ) (e : Entry) (x y : Bool) (e-
       let v : b ≡ violated s (e .operand) = unfold violated in rw (b-is, c-is) in
       v ∙ (decided s e x y h ∙ breaks-is)
 
+-- the condition of a MAINTAIN of the table is allowed
+pub maintained : (t : List ℕ) (p : ℕ) (e : Entry) (x y : Bool) → isTable t ≡ true → p < parts t → e ≡ entryAt Table t p → y ≡ isKind MAINTAIN e → not (x && y) ≡ false → conditionAllowed (variables t) (clocks t) (e .operand) ≡ true
+unfolding numberOf
+maintained t p e x y table here e-is y-is h = condition-fits (variables t) (clocks t) e (read-allowed t p e table here e-is) (inr (inl (eqb-true (e .kind) 6 (sym y-is ∙ and-right x y (not-false (x && y) h)))))
+
 -- a condition is judged by the part of the record that holds the estimate
 pub judged-lent : (t r : List ℕ) (time v w : ℕ) (o : Operand) (c : Outcome) → isTable t ≡ true → recordLength ≤ length r → v ≡ variables t → w ≡ v → c ≡ outcome (situation t r (take (estimatePlace + w - estimatePlace) (drop estimatePlace r)) time) o → c ≡ outcome (judging t r time) o
 unfolding judging
@@ -83,6 +91,12 @@ judged-lent t r time v w o c table long v-is w-is c-is =
     let n : estimatePlace + w - estimatePlace ≡ variables t = omega arith in
     let l : take (estimatePlace + w - estimatePlace) (drop estimatePlace r) ≡ estimateIn t r = rw n (part-bytes r estimatePlace (variables t) (omega (arith, table-held t table .1 .within .variables-fit))) in
     rw l at c-is
+
+-- what is lent is as long as there are variables
+pub lent-length : (t r : List ℕ) (v w : ℕ) → isTable t ≡ true → recordLength ≤ length r → v ≡ variables t → w ≡ v → variables t ≤ length (take (estimatePlace + w - estimatePlace) (drop estimatePlace r))
+lent-length t r v w table long v-is w-is =
+    let n : estimatePlace + w - estimatePlace ≡ variables t = omega arith in
+    rw (n, part-bytes r estimatePlace (variables t) (omega (arith, table-held t table .1 .within .variables-fit)), length-bytes) (omega arith)
 
 -- what is left to be done begins with part p's turn
 checked-next : (t r : List ℕ) (time p skip : ℕ) → p < parts t → checkedRest t time r p skip ≡ sets r (marksPlace + p) (checkedFrom t (judging t r time) p (getD r (marksPlace + p) 0 ∷ bytesAt r (suc (marksPlace + p)) (parts t - suc p)) skip)
@@ -139,3 +153,7 @@ module _ (r : List ℕ) (p skip : ℕ) where
   pub mark-stays : skip ≡ 0 → r ≡ turned r p skip
   unfolding turned
   mark-stays z = rw z
+
+-- the mark that is dropped stands in the record
+pub mark-dropping : (t r : List ℕ) (p q : ℕ) → isTable t ≡ true → recordLength ≤ length r → p < parts t → q ≡ p → marksPlace + q < length r
+mark-dropping t r p q table long here q-is = rw q-is (mark-inside t table r p long here)

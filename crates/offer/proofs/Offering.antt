@@ -22,10 +22,10 @@ use Rattle.meaning.specs.Record.{timePlace, estimatePlace, marksPlace, recordLe
 use Rattle.meaning.specs.Cycle.{leavesFrom, goalBytes, situation, checkedFrom, offerRefusal, checkedMarks, offeredGoals, offeredRecord, offeredInto, goalsInto}
 use Rattle.meaning.specs.Answers.{answered, refusalNumber, answerNumber}
 use Rattle.meaning.specs.Operations.{Offered}
-use Rattle.meaning.proofs.Answers.{is-refused, refused-before, left-open}
+use Rattle.meaning.proofs.Answers.{not-refused, is-refused, refused-before, left-open}
 use Rattle.meaning.proofs.Records.{length-checked, allowed-long}
-use Rattle.meaning.proofs.Tables.{table-held}
 use Rattle.meaning.proofs.Entries.{length-goals}
+use Rattle.record.proofs.Marks.{marks-inside}
 use Rattle.allowed.specs.Running.{runTests}
 use Rattle.offer.specs.Turns.{judging}
 use Rattle.goals.specs.Raised.{lowestContested}
@@ -41,6 +41,10 @@ module _ (t r : List ℕ) (time room : ℕ) where
     pub refused-early : (why : Refusal) → a ≡ Refused why → answerNumber a ≡ offerRefusal t r time room
     unfolding offerRefusal
     refused-early = refused-before (runTests t r) lateTests refl a a-is
+
+    -- the record of a run that goes on is long enough
+    pub goes-long : a ≡ Done → recordLength ≤ length r
+    goes-long goes = allowed-long t r (none-fails (runTests t r) refl (not-refused a (firstFailing (runTests t r)) a-is goes) .1 .0)
 
     module _ (goes : a ≡ Done) (p : ℕ) (p-is : p ≡ phaseOf r) where
       then-late : offerRefusal t r time room ≡ firstFailing lateTests
@@ -73,8 +77,15 @@ module _ (t r : List ℕ) (time room : ℕ) (free : offerRefusal t r time room �
   pub offer-long : recordLength ≤ length r
   offer-long = allowed-long t r (offer-passes .1 .0)
 
+  -- also once it is written to
+  pub offer-kept : (s : List ℕ) → length s ≡ length r → recordLength ≤ length s
+  offer-kept s e = omega (arith, e, offer-long)
+
   pub offer-room : variables t ≤ room
   offer-room = leb-true (variables t) room (offer-passes .1 .1 .1 .1 .1 .0)
+
+  pub goals-kept : (g : List ℕ) (v : ℕ) → length g ≡ room → v ≡ variables t → v ≤ length g
+  goals-kept g v e v-is = omega (arith, offer-room)
 
 -- The record: phase and time stand before all that the check looks at
 checked-is : (t r : List ℕ) (time : ℕ) → checkedMarks t r time ≡ checkedFrom t (judging t r time) 0 (marksIn t r) 0
@@ -96,8 +107,7 @@ record-advanced t r a b c time table a-is b-is c-is =
 marks-after : (t r : List ℕ) (time : ℕ) → isTable t ≡ true → recordLength ≤ length r → marksIn t (offeredRecord t r time) ≡ checkedMarks t r time
 marks-after t r time table long =
     let n : length (checkedMarks t r time) ≡ parts t = length-checked t (situation t r (estimateIn t r) time) 0 (marksIn t r) 0 ∙ length-bytes r marksPlace (parts t) in
-    let m : parts t ≤ 200 = omega (arith, table-held t table .1 .parts-are, table-held t table .1 .within .size-fits) in
-    bytes-sets (checkedMarks t r time) (sets (set r 0 offered) timePlace (littleEndian timeWidth time)) marksPlace (parts t) n (rw (length-sets, length-set) (omega arith))
+    bytes-sets (checkedMarks t r time) (sets (set r 0 offered) timePlace (littleEndian timeWidth time)) marksPlace (parts t) n (rw (length-sets, length-set) (marks-inside t table r (parts t) long (omega arith)))
 
 module _ (t r s g h : List ℕ) (time : ℕ) (free : offerRefusal t r time (length g) ≡ 0) (s-is : s ≡ offeredRecord t r time) (h-is : h ≡ sets g 0 (goalBytes (variables t) (leavesFrom t 0 (marksIn t s)))) where
   pub goals-offered : h ≡ sets g 0 (offeredGoals t r time)

@@ -1,5 +1,5 @@
 // The check of the marked MAINTAINs: one that is violated loses every mark inside it.
-use base::put;
+use base::store;
 use base::wide;
 use meaning::Entry;
 use meaning::Form;
@@ -17,10 +17,11 @@ use record::fields::is_marked;
 use walk::walker::entry_at;
 ghost use mathlib.Core.Path.{_≡_};
 ghost use mathlib.Core.Bool.{true};
-ghost use Prim.Native.Nat.{_+_, _≤_};
+ghost use Prim.Native.Nat.{_+_, _<_, _≤_};
 ghost use lib.ListN.{length, getD};
 ghost use lib.Seq.{sets};
-ghost use Rattle.meaning.specs.Kinds.{MAINTAIN};
+ghost use Rattle.meaning.specs.Kinds.{MAINTAIN, conditionAllowed};
+ghost use Rattle.meaning.specs.Program.{parts, variables, clocks};
 ghost use Rattle.meaning.specs.Table.{isTable};
 ghost use Rattle.meaning.specs.Conditions.{outcome};
 ghost use Rattle.meaning.specs.Record.{marksPlace, recordLength};
@@ -37,6 +38,7 @@ fn is_maintain(e: Entry) -> bool
 fn judged(t: &[u8], r: &[u8], time: u32, o: Operand) -> Outcome
     requires { ⌜ isTable (now t) ≡ true ⌝ }
     requires { ⌜ recordLength ≤ length (now r) ⌝ }
+    requires { ⌜ conditionAllowed (variables (now t)) (clocks (now t)) o ≡ true ⌝ }
     ensures { λ x. ⌜ x ≡ outcome (judging (now (t .entry)) (now (r .entry)) time) o ⌝ }
 {
     let stop = ESTIMATE_PLACE + wide(variables(t));
@@ -47,6 +49,7 @@ fn judged(t: &[u8], r: &[u8], time: u32, o: Operand) -> Outcome
 fn breaks(t: &[u8], r: &[u8], time: u32, p: Number) -> bool
     requires { ⌜ isTable (now t) ≡ true ⌝ }
     requires { ⌜ recordLength ≤ length (now r) ⌝ }
+    requires { ⌜ p < parts (now t) ⌝ }
     ensures { λ b. ⌜ b ≡ breaks (now (t .entry)) (judging (now (t .entry)) (now (r .entry)) time) p (getD (now (r .entry)) (marksPlace + p) 0) ⌝ }
 {
     let part = entry_at(t, Form::Table, p);
@@ -61,11 +64,12 @@ fn breaks(t: &[u8], r: &[u8], time: u32, p: Number) -> bool
 fn turn(t: &[u8], r: &mut [u8], time: u32, p: Number, skip: Number) -> Number
     requires { ⌜ isTable (now t) ≡ true ⌝ }
     requires { ⌜ recordLength ≤ length (now r) ⌝ }
+    requires { ⌜ p < parts (now t) ⌝ }
     ensures { λ n. ⌜ n ≡ skipAfter (now (t .entry)) (judging (now (t .entry)) (now (r .entry)) time) p (getD (now (r .entry)) (marksPlace + p) 0) skip ⌝ }
     ensures { λ _. ⌜ now (r .exit) ≡ turned (now (r .entry)) p skip ⌝ }
 {
     if skip != 0 {
-        put(r, MARKS_PLACE + wide(p), 0);
+        store(r, MARKS_PLACE + wide(p), 0);
         return skip - 1;
     }
     if breaks(t, r, time, p) {

@@ -3,7 +3,7 @@ pub mod checks;
 
 use crate::checks::check_marks;
 use allowed::examine;
-use base::put;
+use base::store;
 use base::wide;
 use goals::goals::write_goals;
 use goals::naming::lowest_contested;
@@ -77,7 +77,7 @@ fn advance(t: &[u8], r: &mut [u8], time: u32)
     requires { ⌜ recordLength ≤ length (now r) ⌝ }
     ensures { λ _. ⌜ now (r .exit) ≡ offeredRecord (now (t .entry)) (now (r .entry)) time ⌝ }
 {
-    put(r, 0, OFFERED);
+    store(r, 0, OFFERED);
     put_time(r, TIME_PLACE, time);
     check_marks(t, r, time);
 }

@@ -7,6 +7,7 @@ use meaning::sizes::MAX_VALUE;
 ghost use mathlib.Core.Path.{_≡_};
 ghost use Rattle.meaning.specs.Kinds.{value, conditionAllowed, goalAllowed, startAllowed, countAllowed, emptyAllowed};
 ghost use Rattle.meaning.specs.Program.{knownEntry, allowedEntry, arityOf};
+ghost use Rattle.part.specs.Children.{countIf, ofCondition, childrenOf};
 
 pub fn is_known(e: Entry) -> bool
     ensures { λ r. ⌜ r ≡ knownEntry e ⌝ }
@@ -66,28 +67,61 @@ pub fn is_condition(variables: u8, clocks: u8, o: Operand) -> bool
 {
     let test = o.b0;
     match test {
-        1 => (o.b1 < variables) & (value(o) <= MAX_VALUE),
-        2 => (o.b1 < variables) & (value(o) <= MAX_VALUE),
-        3 => o.b1 < clocks,
-        4 => o.b1 < clocks,
+        1 | 2 => (o.b1 < variables) & (value(o) <= MAX_VALUE),
+        3 | 4 => o.b1 < clocks,
         _ => false,
+    }
+}
+
+// How many children follow a part, or that its operand is not allowed.
+pub enum Children {
+    Count(Number),
+    NotAllowed,
+}
+
+fn count_if(allowed: bool, n: Number) -> Children
+    ensures { λ c. ⌜ c ≡ countIf allowed n ⌝ }
+{
+    if allowed {
+        Children::Count(n)
+    } else {
+        Children::NotAllowed
+    }
+}
+
+// The children of a part of a kind that has a condition, which is allowed or not.
+fn of_condition(kind: u8, allowed: bool) -> Children
+    ensures { λ c. ⌜ c ≡ ofCondition kind allowed ⌝ }
+{
+    match kind {
+        3 => count_if(allowed, 0),
+        6 => count_if(allowed, 1),
+        7 => count_if(allowed, 2),
+        _ => Children::NotAllowed,
+    }
+}
+
+// Operand and children are asked for together, and the kinds with a condition share an arm: so the
+// compiler makes one short jump of it wherever it is called.
+pub fn children_of(variables: u8, clocks: u8, e: Entry) -> Children
+    ensures { λ c. ⌜ c ≡ childrenOf variables clocks e ⌝ }
+{
+    let kind = e.kind;
+    let o = e.operand;
+    match kind {
+        1 => count_if(is_goal(variables, o), 0),
+        2 => count_if(is_start(clocks, o), 0),
+        4 | 5 => count_if(is_count(o), o.b0),
+        8 => count_if(is_empty(o), 1),
+        _ => of_condition(kind, is_condition(variables, clocks, o)),
     }
 }
 
 pub fn is_allowed(variables: u8, clocks: u8, e: Entry) -> bool
     ensures { λ r. ⌜ r ≡ allowedEntry variables clocks e ⌝ }
 {
-    let kind = e.kind;
-    let o = e.operand;
-    match kind {
-        1 => is_goal(variables, o),
-        2 => is_start(clocks, o),
-        3 => is_condition(variables, clocks, o),
-        4 => is_count(o),
-        5 => is_count(o),
-        6 => is_condition(variables, clocks, o),
-        7 => is_condition(variables, clocks, o),
-        8 => is_empty(o),
-        _ => false,
+    match children_of(variables, clocks, e) {
+        Children::Count(_) => true,
+        Children::NotAllowed => false,
     }
 }

@@ -9,8 +9,10 @@ use lib.Dec.{eqb}
 use lib.ListN.{length, length-append}
 use borrow.Author.Tests.{eqb-true, eqb-false, ne-eqb, not-true}
 use Rattle.base.specs.Lists.{all}
+use Rattle.base.proofs.Lists.{and-left, and-right}
 use Rattle.meaning.specs.declared.Entry.{Entry}
 use Rattle.meaning.specs.declared.Form.{Form}
+use Rattle.meaning.specs.Kinds.{Kind, UNKNOWN, GOAL, START, WAIT, SEQ, PAR, MAINTAIN, CHOICE, REPEAT, kindOf, known, operandAllowed}
 use Rattle.meaning.specs.Tree.{Part, children}
 use Rattle.meaning.specs.Program.{entries, knownEntry, allowedEntry, arityOf, place, follow, trees, single, treeOf, isTree}
 use Rattle.meaning.proofs.Parsing.{Placed, placed, makes}
@@ -83,3 +85,24 @@ one-tree v k form s known allowed = go (fills (entries form s) 1) refl
     go : (b : Bool) → fills (entries form s) 1 ≡ b → isTree (follow single (trees (entries form s))) ≡ b
     go true f = let w = fills-trees v k (entries form s) 1 known allowed f in rw (w .1) (single-one (w .0) (w .2))
     go false f = single-other (trees (entries form s)) (λ ps t l. false≢true (sym f ∙ (rw l at (trees-fill (entries form s) ps t))))
+
+-- an operand that is allowed is that of a kind that is known
+allowed-known : (v k : ℕ) (e : Entry) → allowedEntry v k e ≡ true → knownEntry e ≡ true
+unfolding allowedEntry knownEntry operandAllowed known
+allowed-known v k e h = go (kindOf (e .kind)) h
+  where
+    go : (x : Kind) → operandAllowed v k x (e .operand) ≡ true → known x ≡ true
+    go UNKNOWN f = f
+    go GOAL f = refl
+    go START f = refl
+    go WAIT f = refl
+    go SEQ f = refl
+    go PAR f = refl
+    go MAINTAIN f = refl
+    go CHOICE f = refl
+    go REPEAT f = refl
+
+pub all-known : (v k : ℕ) (es : List Entry) → all (allowedEntry v k) es ≡ true → all knownEntry es ≡ true
+all-known v k [] h = refl
+all-known v k (e ∷ es) h =
+    rw (allowed-known v k e (and-left (allowedEntry v k e) (all (allowedEntry v k) es) h), all-known v k es (and-right (allowedEntry v k e) (all (allowedEntry v k) es) h))

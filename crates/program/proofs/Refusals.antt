@@ -1,23 +1,27 @@
 -- Refusals 1 to 7, one law for each place where the code gives its answer.
-use Prim.Native.Nat.{ℕ, _≤_, _<_}
+use Prim.Native.Nat.{ℕ, _+_, _≤_, _<_}
 use native.Mathlib.Omega.{arith}
-use mathlib.Core.Path.{_≡_, sym, ap, _∙_}
-use mathlib.Core.Bool.{Bool, true, false, not, cond}
-use mathlib.Core.List.{List}
+use mathlib.Core.Path.{_≡_, refl, sym, ap, _∙_}
+use mathlib.Core.Bool.{Bool, true, false, not, cond, _&&_}
+use mathlib.Core.List.{List, [], _∷_, _++_}
 use lib.Dec.{leb}
-use lib.ListN.{length}
-use borrow.Author.Tests.{le-leb, lt-leb, eq-eqb, ne-eqb, not-true, not-false}
+use lib.ListN.{length, length-append}
+use borrow.Author.Tests.{le-leb, lt-leb, leb-true, eq-eqb, ne-eqb, not-true, not-false}
 use Rattle.base.specs.Lists.{all, firstFailing}
+use Rattle.base.proofs.Lists.{and-left}
 use Rattle.meaning.specs.declared.Form.{Form}
-use Rattle.meaning.specs.Sizes.{headerLength, maxDepth, lengthOf}
-use Rattle.meaning.specs.Tree.{depth}
-use Rattle.meaning.specs.Program.{parts, variables, clocks, sizesAllowed, entries, knownEntry, allowedEntry, treeOf, isTree, partTests, programRefusal}
-use Rattle.walk.specs.declared.walk.Extent.the-variants.{End, TooDeep}
+use Rattle.meaning.specs.Sizes.{maxParts, maxVariables, maxClocks, maxDepth, headerLength, lengthOf}
+use Rattle.meaning.specs.Tree.{size, depth}
+use Rattle.meaning.specs.Program.{parts, variables, clocks, sizesAllowed, entries, preorder, knownEntry, allowedEntry, treeOf, isTree, partTests, programRefusal}
+use Rattle.meaning.proofs.Trees.{length-preorder}
+use Rattle.meaning.proofs.Parsing.{trees-are}
+use Rattle.meaning.proofs.Files.{length-entries}
+use Rattle.walk.specs.Walk.{anyEnd, partsEnd}
+use Rattle.walk.proofs.Entries.{all-entries, each-entry}
+use Rattle.walk.proofs.Standing.{Alone, alone}
+use Rattle.walk.proofs.Ending.{Fine, whole-reached, Whole, whole}
 use Rattle.program.specs.Counting.{fills}
-use Rattle.walk.specs.Walk.{Stands, partAt, reached, LinksAll, Linked}
-use Rattle.program.proofs.Counting.{one-tree}
-use Rattle.walk.proofs.Standing.{Alone, alone, alone-stands, alone-part}
-use Rattle.walk.proofs.Reaching.{reached-shallow, reached-deep}
+use Rattle.program.proofs.Counting.{all-known, one-tree}
 
 -- what a test says, once its negation is known
 refused : (r b : Bool) → r ≡ b → not r ≡ true → b ≡ false
@@ -26,75 +30,83 @@ refused r b e t = sym e ∙ not-true r t
 passed : (r b : Bool) → r ≡ b → not r ≡ false → b ≡ true
 passed r b e t = sym e ∙ not-false r t
 
+pub long-enough : (form : Form) (s : List ℕ) (n m : ℕ) → n ≡ parts s → m ≡ lengthOf form n → length s ≡ m → lengthOf form (parts s) ≤ length s
+long-enough form s n m p l f = omega (arith, f ∙ l ∙ ap (lengthOf form) p)
+
+-- sizes that are allowed have a part
+pub some-part : (r : Bool) (s : List ℕ) → r ≡ sizesAllowed s → not r ≡ false → 1 ≤ parts s
+unfolding sizesAllowed
+some-part r s e t = leb-true 1 (parts s) (and-left (leb 1 (parts s)) (leb (parts s) maxParts && (leb 1 (variables s) && (leb (variables s) maxVariables && leb (clocks s) maxClocks))) (passed r (sizesAllowed s) e t))
+
 module _ (form : Form) (s : List ℕ) where
-  -- the answer n, where m is due, with what stands in the buffer of links
-  abbrev Answered : ℕ → ℕ → List ℕ → List ℕ → Type 0
-  Answered n m out out₁ = (n ≡ m) × Linked form s m out out₁
+  pub too-short : length s < headerLength → 1 ≡ programRefusal form s
+  unfolding programRefusal
+  too-short h = rw (lt-leb headerLength (length s) h)
 
-  refusal : (n m : ℕ) (out out₁ : List ℕ) → 0 < n → n ≡ m → Answered n m out out₁
-  refusal n m out out₁ h e = (e, record { stored = λ z. absurd (omega arith) })
+  pub sizes-refused : (r : Bool) → headerLength ≤ length s → r ≡ sizesAllowed s → not r ≡ true → 2 ≡ programRefusal form s
+  unfolding programRefusal
+  sizes-refused r h e t = rw (le-leb headerLength (length s) h, refused r (sizesAllowed s) e t)
 
-  module _ (out : List ℕ) where
-    pub too-short : length s < headerLength → Answered 1 (programRefusal form s) out out
+  module _ (r : Bool) (n m : ℕ) (h : headerLength ≤ length s) (e : r ≡ sizesAllowed s) (t : not r ≡ false) (p : n ≡ parts s) (l : m ≡ lengthOf form n) where
+    pub length-refused : (length s ≡ m → ⊥) → 3 ≡ programRefusal form s
     unfolding programRefusal
-    too-short h = refusal 1 (programRefusal form s) out out (omega arith) (rw (lt-leb headerLength (length s) h))
+    length-refused f =
+        rw (le-leb headerLength (length s) h, passed r (sizesAllowed s) e t, ne-eqb (length s) (lengthOf form (parts s)) (λ x. f (x ∙ sym (l ∙ ap (lengthOf form) p))))
 
-    pub sizes-refused : (r : Bool) → headerLength ≤ length s → r ≡ sizesAllowed s → not r ≡ true → Answered 2 (programRefusal form s) out out
+    pub parts-refused : (a : ℕ) → length s ≡ m → a ≡ firstFailing (partTests form s) → a ≡ programRefusal form s
     unfolding programRefusal
-    sizes-refused r h e t = refusal 2 (programRefusal form s) out out (omega arith) (rw (le-leb headerLength (length s) h, refused r (sizesAllowed s) e t))
+    parts-refused a f g =
+        g ∙ rw (le-leb headerLength (length s) h, passed r (sizesAllowed s) e t, eq-eqb (length s) (lengthOf form (parts s)) (f ∙ l ∙ ap (lengthOf form) p))
 
-    module _ (r : Bool) (n m : ℕ) (h : headerLength ≤ length s) (e : r ≡ sizesAllowed s) (t : not r ≡ false) (p : n ≡ parts s) (l : m ≡ lengthOf form n) where
-      pub length-refused : (length s ≡ m → ⊥) → Answered 3 (programRefusal form s) out out
-      unfolding programRefusal
-      length-refused f =
-          refusal 3 (programRefusal form s) out out (omega arith)
-          (rw (le-leb headerLength (length s) h, passed r (sizesAllowed s) e t, ne-eqb (length s) (lengthOf form (parts s)) (λ x. f (x ∙ sym (l ∙ ap (lengthOf form) p)))))
+  module _ (known : Bool) (a : known ≡ all knownEntry (entries form s)) where
+    pub kinds-refused : not known ≡ true → 4 ≡ firstFailing (partTests form s)
+    kinds-refused t = rw (refused known (all knownEntry (entries form s)) a t)
 
-      parts-decide : length s ≡ m → firstFailing (partTests form s) ≡ programRefusal form s
-      unfolding programRefusal
-      parts-decide f =
-          rw (le-leb headerLength (length s) h, passed r (sizesAllowed s) e t, eq-eqb (length s) (lengthOf form (parts s)) (f ∙ l ∙ ap (lengthOf form) p))
+    module _ (t : not known ≡ false) (allowed : Bool) (b : allowed ≡ all (allowedEntry (variables s) (clocks s)) (entries form s)) where
+      kinds-pass : all knownEntry (entries form s) ≡ true
+      kinds-pass = passed known (all knownEntry (entries form s)) a t
 
-      pub parts-refused : (a : ℕ) (out₁ : List ℕ) → length s ≡ m → Answered a (firstFailing (partTests form s)) out out₁ → Answered a (programRefusal form s) out out₁
-      parts-refused a out₁ f g = (g .0 ∙ parts-decide f, record { stored = λ z. g .1 .stored (parts-decide f ∙ z) })
+      pub operands-refused : not allowed ≡ true → 5 ≡ firstFailing (partTests form s)
+      operands-refused u = rw (kinds-pass, refused allowed (all (allowedEntry (variables s) (clocks s)) (entries form s)) b u)
 
-    module _ (known : Bool) (a : known ≡ all knownEntry (entries form s)) where
-      pub kinds-refused : not known ≡ true → Answered 4 (firstFailing (partTests form s)) out out
-      kinds-refused t = refusal 4 (firstFailing (partTests form s)) out out (omega arith) (rw (refused known (all knownEntry (entries form s)) a t))
+      module _ (u : not allowed ≡ false) (r : Bool) (d : r ≡ fills (entries form s) 1) where
+        operands-pass : all (allowedEntry (variables s) (clocks s)) (entries form s) ≡ true
+        operands-pass = passed allowed (all (allowedEntry (variables s) (clocks s)) (entries form s)) b u
 
-      module _ (t : not known ≡ false) (allowed : Bool) (b : allowed ≡ all (allowedEntry (variables s) (clocks s)) (entries form s)) where
-        kinds-pass : all knownEntry (entries form s) ≡ true
-        kinds-pass = passed known (all knownEntry (entries form s)) a t
+        tree-is : isTree (treeOf form s) ≡ r
+        tree-is = one-tree (variables s) (clocks s) form s kinds-pass operands-pass ∙ sym d
 
-        pub operands-refused : not allowed ≡ true → Answered 5 (firstFailing (partTests form s)) out out
-        operands-refused u = refusal 5 (firstFailing (partTests form s)) out out (omega arith) (rw (kinds-pass, refused allowed (all (allowedEntry (variables s) (clocks s)) (entries form s)) b u))
+        pub tree-refused : not r ≡ true → 6 ≡ firstFailing (partTests form s)
+        tree-refused f = rw (kinds-pass, operands-pass, tree-is, not-true r f)
 
-        module _ (u : not allowed ≡ false) (filled : Bool) (c : filled ≡ fills (entries form s) 1) where
-          operands-pass : all (allowedEntry (variables s) (clocks s)) (entries form s) ≡ true
-          operands-pass = passed allowed (all (allowedEntry (variables s) (clocks s)) (entries form s)) b u
+        -- a tree that stands alone has all parts
+        alone-size : (one : Alone form s) → size (one .part) ≡ parts s
+        alone-size one =
+            let are : entries form s ≡ preorder (one .part) ++ [] = trees-are (variables s) (clocks s) (entries form s) (one .part ∷ []) (one .is) kinds-pass operands-pass in
+            omega (arith, length-preorder (one .part), ap length are, length-append (preorder (one .part)) [], length-entries form s)
 
-          tree-is : isTree (treeOf form s) ≡ filled
-          tree-is = one-tree (variables s) (clocks s) form s kinds-pass operands-pass ∙ sym c
+        -- one tree of allowed parts that the walk does not find to end is too deep
+        pub depth-refused : not r ≡ false → (partsEnd form s anyEnd maxDepth 1 0 ≡ parts s → ⊥) → 7 ≡ firstFailing (partTests form s)
+        depth-refused f no-end =
+            let one : Alone form s = alone form s (tree-is ∙ not-false r f) in
+            let fine : (p : ℕ) → p < parts s → Fine form s anyEnd p = λ p h. record { allowed = each-entry form s (allowedEntry (variables s) (clocks s)) operands-pass p h; tested = refl } in
+            go one (leb (depth (one .part)) maxDepth) refl (whole-reached form s anyEnd fine maxDepth (one .part) (one .is))
+          where
+            go : (one : Alone form s) (x : Bool) → leb (depth (one .part)) maxDepth ≡ x → partsEnd form s anyEnd maxDepth 1 0 ≡ cond x (0 + size (one .part)) 0 → 7 ≡ firstFailing (partTests form s)
+            go one true x-is e = absurd (no-end (e ∙ omega (arith, alone-size one)))
+            go one false x-is e = rw (kinds-pass, operands-pass, one .tree, x-is)
 
-          pub tree-refused : not filled ≡ true → Answered 6 (firstFailing (partTests form s)) out out
-          tree-refused v = refusal 6 (firstFailing (partTests form s)) out out (omega arith) (rw (kinds-pass, operands-pass, tree-is, not-true filled v))
+  -- a walk that ends at the last part has found one tree of allowed parts that is not too deep, whatever its ends are tested for
+  module _ (test : ℕ → ℕ → Bool) (e n : ℕ) (e-is : e ≡ partsEnd form s test maxDepth 1 0) (n-is : n ≡ parts s) where
+    pub no-end : (e ≡ n → ⊥) → partsEnd form s test maxDepth 1 0 ≡ parts s → ⊥
+    no-end h d = h (e-is ∙ d ∙ sym n-is)
 
-          module _ (v : not filled ≡ false) where
-            tree-alone : Alone form s
-            tree-alone = alone form s (tree-is ∙ not-false filled v)
+    pub found-whole : 1 ≤ parts s → e ≡ n → Whole form s test maxDepth
+    found-whole some-part h = whole form s test maxDepth (sym e-is ∙ h ∙ n-is) (λ z. omega arith)
 
-            pub tree-stands : Stands (entries form s) 0
-            tree-stands = alone-stands form s tree-alone
-
-            -- what is left to say once there is a tree
-            depth-decides : firstFailing (partTests form s) ≡ cond (leb (depth (partAt (entries form s) 0)) maxDepth) 0 7
-            depth-decides = rw (kinds-pass, operands-pass, alone-part form s tree-alone)
-
-            pub depth-passes : (e : ℕ) (out₁ : List ℕ) → End e ≡ reached maxDepth (partAt (entries form s) 0) 0 → LinksAll maxDepth (partAt (entries form s) 0) out out₁
-                → Answered 0 (firstFailing (partTests form s)) out out₁
-            depth-passes e out₁ r l =
-                let d = reached-shallow maxDepth (partAt (entries form s) 0) 0 e r .0 in
-                (sym (depth-decides ∙ rw d), record { stored = λ _. l .stored d })
-
-            pub depth-refused : (out₁ : List ℕ) → TooDeep ≡ reached maxDepth (partAt (entries form s) 0) 0 → Answered 7 (firstFailing (partTests form s)) out out₁
-            depth-refused out₁ r = refusal 7 (firstFailing (partTests form s)) out out₁ (omega arith) (sym (depth-decides ∙ rw (reached-deep maxDepth (partAt (entries form s) 0) 0 r)))
+    pub parts-pass : 1 ≤ parts s → e ≡ n → 0 ≡ firstFailing (partTests form s)
+    unfolding treeOf
+    parts-pass some-part h =
+        let w : Whole form s test maxDepth = found-whole some-part h in
+        let allowed : all (allowedEntry (variables s) (clocks s)) (entries form s) ≡ true = all-entries form s (allowedEntry (variables s) (clocks s)) (λ p b. w .fine p b .allowed) in
+        rw (all-known (variables s) (clocks s) (entries form s) allowed, allowed, w .tree, le-leb (depth (w .part)) maxDepth (w .shallow))

@@ -1,4 +1,4 @@
-// Whether bytes hold a program, in a file or in a table: the refusals 1 to 7.
+// Whether bytes are a program file: the refusals 1 to 7.
 pub mod scan;
 
 use crate::scan::is_one_tree;
@@ -8,22 +8,24 @@ use meaning::Answer;
 use meaning::Form;
 use meaning::Refusal;
 use meaning::sizes::HEADER;
+use meaning::sizes::MAX_DEPTH;
 use part::held::length_of;
 use part::held::parts;
 use part::held::sizes_allowed;
-use walk::walk::Extent;
-use walk::walk::walk_all;
+use walk::walker::root_extent;
 ghost use mathlib.Core.Path.{_≡_};
+ghost use Prim.Native.Nat.{_≤_};
+ghost use lib.ListN.{length};
 ghost use Rattle.base.specs.Lists.{firstFailing};
-ghost use Rattle.meaning.specs.Program.{partTests, programRefusal};
+ghost use Rattle.meaning.specs.declared.Form.the-variants.{File};
+ghost use Rattle.meaning.specs.Sizes.{maxDepth, lengthOf};
+ghost use Rattle.meaning.specs.Program.{parts, partTests, programRefusal};
 ghost use Rattle.meaning.specs.Answers.{answerNumber};
-ghost use Rattle.walk.specs.Walk.{Linked};
+ghost use Rattle.walk.specs.Walk.{anyEnd, partsEnd};
 
-// Whether s holds a program in that form, or why not: refusals 1 to 7. Where it does, the links of its
-// parts are left in `links`.
-pub fn examine(s: &[u8], form: Form, links: &mut [u8]) -> Answer
-    ensures { λ r. ⌜ answerNumber r ≡ programRefusal form (now (s .entry)) ⌝ }
-    ensures { λ _. ⌜ Linked form (now (s .entry)) (programRefusal form (now (s .entry))) (now (links .entry)) (now (links .exit)) ⌝ }
+// Whether s is a program file, or why not: refusals 1 to 7.
+pub fn examine(s: &[u8]) -> Answer
+    ensures { λ r. ⌜ answerNumber r ≡ programRefusal File (now (s .entry)) ⌝ }
 {
     if s.len() < HEADER {
         return Answer::Refused(Refusal::FileTooShort);
@@ -31,29 +33,40 @@ pub fn examine(s: &[u8], form: Form, links: &mut [u8]) -> Answer
     if !sizes_allowed(s) {
         return Answer::Refused(Refusal::SizeOutOfRange);
     }
-    if s.len() != length_of(form, parts(s)) {
+    if s.len() != length_of(Form::File, parts(s)) {
         return Answer::Refused(Refusal::WrongLength);
     }
-    examine_parts(s, form, links)
+    examine_parts(s)
 }
 
-// Refusals 4 to 7. The count that decides 6 comes before the walk that decides 7, so that no walk
-// goes into bytes that form no tree.
-fn examine_parts(s: &[u8], form: Form, links: &mut [u8]) -> Answer
-    ensures { λ r. ⌜ answerNumber r ≡ firstFailing (partTests form (now (s .entry))) ⌝ }
-    ensures { λ _. ⌜ Linked form (now (s .entry)) (firstFailing (partTests form (now (s .entry)))) (now (links .entry)) (now (links .exit)) ⌝ }
+// Refusals 4 to 7. One walk tells whether a file passes all of them; which of them refuses is asked
+// only where it does not.
+fn examine_parts(s: &[u8]) -> Answer
+    requires { ⌜ lengthOf File (parts (now s)) ≤ length (now s) ⌝ }
+    requires { ⌜ 1 ≤ parts (now s) ⌝ }
+    ensures { λ r. ⌜ answerNumber r ≡ firstFailing (partTests File (now (s .entry))) ⌝ }
 {
-    if !kinds_known(s, form) {
+    if root_extent(s, MAX_DEPTH) == parts(s) {
+        return Answer::Done;
+    }
+    unfit(s)
+}
+
+// Which of the refusals 4 to 7 a file gets whose tree does not end at its last part. Each is decided
+// over all parts before the next, and no walk goes into bytes that form no tree.
+fn unfit(s: &[u8]) -> Answer
+    requires { ⌜ lengthOf File (parts (now s)) ≤ length (now s) ⌝ }
+    requires { ⌜ (partsEnd File (now s) anyEnd maxDepth 1 0 ≡ parts (now s) → ⊥) ⌝ }
+    ensures { λ r. ⌜ answerNumber r ≡ firstFailing (partTests File (now (s .entry))) ⌝ }
+{
+    if !kinds_known(s) {
         return Answer::Refused(Refusal::UnknownKind);
     }
-    if !operands_allowed(s, form) {
+    if !operands_allowed(s) {
         return Answer::Refused(Refusal::OperandNotAllowed);
     }
-    if !is_one_tree(s, form) {
+    if !is_one_tree(s) {
         return Answer::Refused(Refusal::NotOneTree);
     }
-    match walk_all(s, form, links) {
-        Extent::End(_) => Answer::Done,
-        Extent::TooDeep => Answer::Refused(Refusal::TooDeep),
-    }
+    Answer::Refused(Refusal::TooDeep)
 }

@@ -1,20 +1,22 @@
 -- A time is made of the four bytes where it stands, and stored as them.
 use Prim.Native.Nat.{ℕ, suc, _+_, _*_, _/_, _%_}
 use native.Mathlib.Omega.{arith}
-use mathlib.Core.Path.{_≡_}
+use mathlib.Core.Path.{_≡_, _∙_}
 use mathlib.Core.List.{List}
 use lib.ListN.{getD, set}
 use lib.Seq.{sets}
 use Rattle.meaning.specs.Sizes.{timeWidth, littleEndian}
 use Rattle.meaning.specs.Record.{timeAt}
 
-pub time-made : (r : List ℕ) (i b0 b1 b2 b3 : ℕ) → b0 ≡ getD r i 0 → b1 ≡ getD r (i + 1) 0 → b2 ≡ getD r (i + 2) 0 → b3 ≡ getD r (i + 3) 0 → b0 + 256 * (b1 + 256 * (b2 + 256 * b3)) ≡ timeAt r i
-time-made r i b0 b1 b2 b3 e d c b =
-    let x : i + 1 ≡ suc i = omega arith in
-    let y : i + 2 ≡ suc (suc i) = omega arith in
-    let z : i + 3 ≡ suc (suc (suc i)) = omega arith in
-    rw (e, d, c, b, x, y, z)
+-- read
+pub time-made : (r : List ℕ) (i x : ℕ) → x ≡ getD r i 0 + 256 * (getD r (i + 1) 0 + 256 * (getD r (i + 2) 0 + 256 * getD r (i + 3) 0)) → x ≡ timeAt r i
+time-made r i x x-is =
+    let u : i + 1 ≡ suc i = omega arith in
+    let v : i + 2 ≡ suc (suc i) = omega arith in
+    let w : i + 3 ≡ suc (suc (suc i)) = omega arith in
+    x-is ∙ rw (u, v, w)
 
+-- stored
 pub time-stored : (r a b c d : List ℕ) (i x : ℕ) → a ≡ set r i (x % 256) → b ≡ set a (i + 1) (x / 256 % 256) → c ≡ set b (i + 2) (x / 256 / 256 % 256) → d ≡ set c (i + 3) (x / 256 / 256 / 256 % 256) → d ≡ sets r i (littleEndian timeWidth x)
 time-stored r a b c d i x a-is b-is c-is d-is =
     let u : i + 1 ≡ suc i = omega arith in

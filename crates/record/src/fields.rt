@@ -1,4 +1,5 @@
-// What stands where in a run record. A place beyond the end reads as 0.
+// What stands where in a run record. The phase alone is asked of a record of any length: refusals
+// read it before anything else is known.
 use base::at;
 use base::wide;
 use meaning::Number;
@@ -9,11 +10,11 @@ use meaning::sizes::TIME;
 use meaning::sizes::TIME_PLACE;
 ghost use mathlib.Core.Path.{_≡_};
 ghost use mathlib.Core.Bool.{not};
-ghost use Prim.Native.Nat.{_+_, _*_, _<_};
+ghost use Prim.Native.Nat.{_+_, _*_, _<_, _≤_};
 ghost use lib.Dec.{eqb};
-ghost use lib.ListN.{getD};
-ghost use Rattle.meaning.specs.Sizes.{timeWidth};
-ghost use Rattle.meaning.specs.Record.{startedPlace, startsPlace, marksPlace, timeAt, phaseOf, lastTime, isMark};
+ghost use lib.ListN.{length, getD};
+ghost use Rattle.meaning.specs.Sizes.{maxClocks, timeWidth};
+ghost use Rattle.meaning.specs.Record.{startedPlace, startsPlace, marksPlace, recordLength, timeAt, phaseOf, lastTime, isMark};
 
 pub fn phase(r: &[u8]) -> u8
     ensures { λ b. ⌜ b ≡ phaseOf (now (r .entry)) ⌝ }
@@ -21,19 +22,23 @@ pub fn phase(r: &[u8]) -> u8
     at(r, 0)
 }
 
+// The time of four bytes, the low one first.
+pub fn time_of(b0: u8, b1: u8, b2: u8, b3: u8) -> u32
+    ensures { λ x. ⌜ x ≡ b0 + 256 * (b1 + 256 * (b2 + 256 * b3)) ⌝ }
+{
+    (b0 as u32) + 256 * ((b1 as u32) + 256 * ((b2 as u32) + 256 * (b3 as u32)))
+}
+
 // The time whose first byte stands at place i.
 fn time_at(r: &[u8], i: usize) -> u32
-    requires { ⌜ i < 65536 ⌝ }
+    requires { ⌜ i + timeWidth ≤ length (now r) ⌝ }
     ensures { λ x. ⌜ x ≡ timeAt (now (r .entry)) i ⌝ }
 {
-    let b0 = at(r, i) as u32;
-    let b1 = at(r, i + 1) as u32;
-    let b2 = at(r, i + 2) as u32;
-    let b3 = at(r, i + 3) as u32;
-    b0 + 256 * (b1 + 256 * (b2 + 256 * b3))
+    time_of(r[i], r[i + 1], r[i + 2], r[i + 3])
 }
 
 pub fn last_time(r: &[u8]) -> u32
+    requires { ⌜ recordLength ≤ length (now r) ⌝ }
     ensures { λ x. ⌜ x ≡ lastTime (now (r .entry)) ⌝ }
 {
     time_at(r, TIME_PLACE)
@@ -41,12 +46,16 @@ pub fn last_time(r: &[u8]) -> u32
 
 // Whether clock c is started, and its start time.
 pub fn is_started(r: &[u8], c: u8) -> bool
+    requires { ⌜ recordLength ≤ length (now r) ⌝ }
+    requires { ⌜ c < maxClocks ⌝ }
     ensures { λ b. ⌜ b ≡ not (eqb (getD (now (r .entry)) (startedPlace + c) 0) 0) ⌝ }
 {
-    at(r, STARTED_PLACE + wide(c)) != 0
+    r[STARTED_PLACE + wide(c)] != 0
 }
 
 pub fn start_of(r: &[u8], c: u8) -> u32
+    requires { ⌜ recordLength ≤ length (now r) ⌝ }
+    requires { ⌜ c < maxClocks ⌝ }
     ensures { λ x. ⌜ x ≡ timeAt (now (r .entry)) (startsPlace + timeWidth * c) ⌝ }
 {
     time_at(r, STARTS_PLACE + TIME * wide(c))
@@ -54,7 +63,8 @@ pub fn start_of(r: &[u8], c: u8) -> u32
 
 // Whether part p is marked.
 pub fn is_marked(r: &[u8], p: Number) -> bool
+    requires { ⌜ marksPlace + p < length (now r) ⌝ }
     ensures { λ b. ⌜ b ≡ isMark (getD (now (r .entry)) (marksPlace + p) 0) ⌝ }
 {
-    at(r, MARKS_PLACE + wide(p)) != 0
+    r[MARKS_PLACE + wide(p)] != 0
 }

@@ -110,6 +110,24 @@ listing-fits f = go (eqb (programRefusal File f) 0) refl
     go true e = text-fits (compiled File f) (parts-few f (eqb-true (programRefusal File f) 0 e))
     go false e = omega (arith, line-fits (programRefusal File f ∷ []))
 
+-- The table that is read reads like the file's, and stands in the buffer with all its rows
+module _ (f : List ℕ) (n : ℕ) (room : lengthOf Table maxParts ≤ n) (a : Answer) (a-is : answerNumber a ≡ readRefusal f (length (zeros n))) where
+  refusal-is : answerNumber a ≡ programRefusal File f
+  refusal-is = a-is ∙ room-enough f (length (zeros n)) (rw length-replicate room)
+
+  module _ (t : List ℕ) (t-is : t ≡ readInto f (zeros n)) (d : a ≡ Done) where
+    accepts : programRefusal File f ≡ 0
+    accepts = sym refusal-is ∙ ap answerNumber d
+
+    alike : (i : ℕ) → getD t i 0 ≡ getD (compiled File f) i 0
+    unfolding readInto
+    alike =
+        let s : t ≡ sets (zeros n) 0 (compiled File f) = t-is ∙ rw (← a-is, d) in
+        rw s (stored-reads n (compiled File f) (omega (arith, table-fits f accepts)))
+
+    pub list-long : lengthOf Table (parts t) ≤ n
+    list-long = omega (arith, alike 0, parts-few f accepts)
+
 -- What `list` ensures, at each of its answers
 module _ (f out m : List ℕ) (r : ℕ) where
   abbrev Listed : Type 0
@@ -121,18 +139,11 @@ module _ (f out m : List ℕ) (r : ℕ) where
       (n, (rw e at (w .bytes), omega (arith, listing-fits f)))
 
   module _ (n : ℕ) (room : lengthOf Table maxParts ≤ n) (a : Answer) (a-is : answerNumber a ≡ readRefusal f (length (zeros n))) where
-    refusal-is : answerNumber a ≡ programRefusal File f
-    refusal-is = a-is ∙ room-enough f (length (zeros n)) (rw length-replicate room)
-
     pub list-done : (t : List ℕ) → t ≡ readInto f (zeros n) → a ≡ Done → Written (tableText t) out 0 m r → Listed
-    unfolding readInto
     list-done t t-is d w =
-        let z : programRefusal File f ≡ 0 = sym refusal-is ∙ ap answerNumber d in
-        let s : t ≡ sets (zeros n) 0 (compiled File f) = t-is ∙ rw (← a-is, d) in
-        let alike : (i : ℕ) → getD t i 0 ≡ getD (compiled File f) i 0 = rw s (stored-reads n (compiled File f) (omega (arith, table-fits f z))) in
-        listed (tableText t) (text-alike t (compiled File f) alike ∙ sym (listing-table f z)) w
+        listed (tableText t) (text-alike t (compiled File f) (alike f n room a a-is t t-is d) ∙ sym (listing-table f (accepts f n room a a-is t t-is d))) w
 
     pub list-refused : (x : Refusal) → a ≡ Refused x → Written (line (refusalNumber x ∷ [])) out 0 m r → Listed
     list-refused x d w =
-        let z : refusalNumber x ≡ programRefusal File f = ap answerNumber (sym d) ∙ refusal-is in
+        let z : refusalNumber x ≡ programRefusal File f = ap answerNumber (sym d) ∙ refusal-is f n room a a-is in
         listed (line (refusalNumber x ∷ [])) (rw z (sym (listing-refused f (λ e. omega (arith, refusal-counts x))))) w

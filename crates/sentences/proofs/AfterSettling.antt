@@ -25,7 +25,7 @@ use Rattle.meaning.specs.Cycle.{fresh, begun, settledFrom, situation, settledMa
 use Rattle.meaning.proofs.Tables.{Later, Inside, inside}
 use Rattle.meaning.proofs.Records.{length-fresh, length-settled}
 use Rattle.meaning.proofs.Lies.{Lies, own-kind, own-inside}
-use Rattle.sentences.proofs.Nesting.{lower, at, root-next, inside-root, nested}
+use Rattle.meaning.proofs.Nesting.{lower, at, root-next, inside-root, nested}
 use Rattle.sentences.proofs.Followers.{Followed, Branches, next-nested, choice-branches}
 use Rattle.sentences.proofs.Settlings.{Marked, later, insideBefore, insideAfter, fateAt, EndsAt, TakesFirst, TakesSecond, marked-length, decides, decides-kind, composite-ends, deciding-stays, unmarked-unjudged, end-no-next, end-next, decides-first, decides-second, stays, kept-own}
 

@@ -13,7 +13,7 @@ use Rattle.meaning.specs.Table.{endAt, insideOf, isTable}
 use Rattle.meaning.specs.Conditions.{Situation}
 use Rattle.meaning.specs.Record.{isMark}
 use Rattle.meaning.specs.Cycle.{breaks, checkedFrom}
-use Rattle.sentences.proofs.Nesting.{Inside, Closed, closed-inside, closed-none, closed-rest}
+use Rattle.meaning.proofs.Nesting.{Inside, Closed, closed-inside, closed-none, closed-rest}
 
 module _ (t : List ℕ) (s : Situation) where
   -- a mark is lost or stays as it was

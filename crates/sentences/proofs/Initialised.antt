@@ -16,7 +16,7 @@ use Rattle.meaning.specs.Cycle.{begins, freshFrom, fresh, beginRefusal, begunIn
 use Rattle.meaning.proofs.Tables.{inside as within}
 use Rattle.meaning.proofs.Records.{Fits, length-record, phase-read, time-read, estimate-read, started-read, starts-read, marks-read, length-fresh, length-root, begin-tests, begun-fits, begun-bytes}
 use Rattle.sentences.proofs.RecordFields.{Fields}
-use Rattle.sentences.proofs.Nesting.{Inside, parent-inside, inside-parent, Closed, closed-inside, closed-none, closed-rest}
+use Rattle.meaning.proofs.Nesting.{Inside, parent-inside, inside-parent, Closed, closed-inside, closed-none, closed-rest}
 
 -- part q's marks once it is initialised, by the numbers of the parts
 module _ (t : List ℕ) (table : isTable t ≡ true) (q : ℕ) (marked : ℕ → ℕ) where

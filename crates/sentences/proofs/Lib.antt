@@ -1,4 +1,3 @@
-pub mod Nesting
 pub mod Checked
 pub mod RecordFields
 pub mod Initialised

@@ -21,7 +21,7 @@ use Rattle.meaning.specs.declared.Fate.{Fate}
 use Rattle.meaning.specs.declared.Fate.the-variants.{Stays, Ends, First, Second}
 use Rattle.meaning.specs.Cycle.{endsIf, fate, fresh, applied, settledPart, settledFrom, rootEnded}
 use Rattle.meaning.proofs.Tables.{root-there}
-use Rattle.sentences.proofs.Nesting.{lower, root-next}
+use Rattle.meaning.proofs.Nesting.{lower, root-next}
 use Rattle.sentences.proofs.Followers.{choice-branches}
 
 -- For marks ms before a settling: part p is marked

@@ -1,5 +1,5 @@
 -- A settling's answers: one law for each place where the code gives one.
-use Prim.Native.Nat.{ℕ, _+_}
+use Prim.Native.Nat.{ℕ, _+_, _≤_}
 use native.Mathlib.Omega.{arith}
 use mathlib.Core.Path.{_≡_, refl, sym, ap, _∙_}
 use mathlib.Core.Bool.{Bool, true, false, cond, not, _||_, Bool·not-not}
@@ -9,21 +9,22 @@ use lib.ListN.{length, getD}
 use lib.Seq.{sets}
 use borrow.Author.Tests.{ne-eqb, not-true, not-false}
 use Rattle.base.specs.Lists.{firstFailing, bytesAt}
-use Rattle.base.proofs.Lists.{none-fails}
+use Rattle.base.proofs.Lists.{Passed, none-fails}
 use Rattle.base.proofs.Stores.{bytes-sets, getD-bytes, length-bytes}
 use Rattle.meaning.specs.declared.Refusal.{Refusal}
 use Rattle.meaning.specs.declared.Answer.{Answer}
 use Rattle.meaning.specs.declared.Answer.the-variants.{Done, Refused}
 use Rattle.meaning.specs.Sizes.{maxParts}
-use Rattle.meaning.specs.Program.{parts}
+use Rattle.meaning.specs.Program.{parts, variables}
 use Rattle.meaning.specs.Table.{isTable}
-use Rattle.meaning.specs.Record.{phaseOf, lastTime, marksPlace, marksIn, waiting}
+use Rattle.meaning.specs.Record.{recordAllowed, recordLength, phaseOf, lastTime, marksPlace, marksIn, waiting}
 use Rattle.meaning.specs.Cycle.{estimateAllowed, situation, settledMarks, rootEnded, worksFrom, settleRefusal, settledRecord, settledInto}
 use Rattle.meaning.specs.Answers.{refusalNumber, answerNumber, answered}
 use Rattle.meaning.specs.Operations.{Settled}
 use Rattle.meaning.proofs.Answers.{not-refused, is-refused, refused-before, left-open}
-use Rattle.meaning.proofs.Records.{length-settled}
-use Rattle.meaning.proofs.Tables.{table-held, root-there}
+use Rattle.meaning.proofs.Records.{length-settled, allowed-long, estimate-fits}
+use Rattle.meaning.proofs.Tables.{root-there}
+use Rattle.part.proofs.Places.{parts-fit}
 use Rattle.allowed.specs.Running.{runTests}
 use Rattle.settle.specs.Answering.{laterTests, earlyTests, earlyRefusal, Judged}
 
@@ -65,15 +66,32 @@ module _ (t r est : List ℕ) where
     unfolding settleRefusal earlyRefusal
     then-15 = left-open (earlyTests t r est) lastTest refl a a-is done
 
-    pub is-table : isTable t ≡ true
+    -- what they find where they refuse nothing
+    passes : Passed (earlyTests t r est)
     unfolding earlyRefusal
-    is-table = none-fails (earlyTests t r est) refl (not-refused a (earlyRefusal t r est) a-is done) .0
+    passes = none-fails (earlyTests t r est) refl (not-refused a (earlyRefusal t r est) a-is done)
+
+    pub is-table : isTable t ≡ true
+    is-table = passes .0
+
+    pub is-long : recordLength ≤ length r
+    is-long = allowed-long t r (passes .1 .0)
+
+    pub is-estimate : variables t ≤ length est
+    is-estimate = omega (arith, estimate-fits t est (passes .1 .1 .1 .1 .0) .0)
+
+    -- the marks of all parts have room in m, before and after they are stored
+    pub is-room : (room : ℕ) → room ≡ maxParts → parts t ≤ room
+    is-room room e = omega (arith, parts-fit t is-table)
+
+    pub room-still : (m new : List ℕ) → length m ≡ maxParts → length new ≡ length m → parts t ≤ length new
+    room-still m new e same = is-room (length new) (same ∙ e)
 
     module _ (m new : List ℕ) (x : ℕ) (w : Bool) (long : length m ≡ maxParts) (new-is : new ≡ sets m 0 (settledMarks t r est)) (x-is : x ≡ getD new 0 0) (w-is : w ≡ worksFrom t 0 (bytesAt new 0 (parts t))) where
       marks-there : bytesAt new 0 (parts t) ≡ settledMarks t r est
       marks-there =
           let l : length (settledMarks t r est) ≡ parts t = length-settled t (situation t r est (lastTime r)) 0 (marksIn t r) ∙ length-bytes r marksPlace (parts t) in
-          rw new-is (bytes-sets (settledMarks t r est) m 0 (parts t) l (omega (arith, table-held t is-table .1 .parts-are, table-held t is-table .1 .within .size-fits)))
+          rw new-is (bytes-sets (settledMarks t r est) m 0 (parts t) l (omega (arith, parts-fit t is-table)))
 
       root-is : getD (settledMarks t r est) 0 0 ≡ x
       root-is = sym (x-is ∙ sym (getD-bytes new 0 (parts t) 0 (root-there t is-table)) ∙ ap (λ l. getD l 0 0) marks-there)
@@ -100,11 +118,11 @@ module _ (t r est : List ℕ) where
     none = not-refused a (settleRefusal t r est) (j .answer-is) done
 
     -- what writing the record asks
-    pub to-commit : (isTable t ≡ true) × ((estimateAllowed t est ≡ true) × (bytesAt m 0 (parts t) ≡ settledMarks t r est))
+    pub to-commit : (isTable t ≡ true) × ((recordAllowed t r ≡ true) × ((estimateAllowed t est ≡ true) × (bytesAt m 0 (parts t) ≡ settledMarks t r est)))
     unfolding settleRefusal
     to-commit =
         let passed = none-fails (earlyTests t r est ++ lastTest) refl none in
-        (passed .0, (passed .1 .1 .1 .1 .0, j .marks-are none))
+        (passed .0, (passed .1 .0, (passed .1 .1 .1 .1 .0, j .marks-are none)))
 
     root-mark : getD (settledMarks t r est) 0 0 ≡ getD m 0 0
     root-mark = sym (sym (getD-bytes m 0 (parts t) 0 (root-there t (to-commit .0))) ∙ ap (λ l. getD l 0 0) (j .marks-are none))

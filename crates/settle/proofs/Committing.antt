@@ -1,5 +1,5 @@
 -- The record after a settling: the stores, in the order in which the code makes them, give the definition's.
-use Prim.Native.Nat.{ℕ, _≤_}
+use Prim.Native.Nat.{ℕ, _+_, _<_, _≤_}
 use native.Mathlib.Omega.{arith}
 use mathlib.Core.Path.{_≡_, sym, ap, _∙_}
 use mathlib.Core.Bool.{true, cond, not}
@@ -13,9 +13,10 @@ use Rattle.base.proofs.Stores.{bytes-all, getD-bytes, set-before, sets-swap}
 use Rattle.meaning.specs.Sizes.{maxVariables, timeWidth, littleEndian}
 use Rattle.meaning.specs.Program.{parts, variables, clocks}
 use Rattle.meaning.specs.Table.{isTable}
-use Rattle.meaning.specs.Record.{estimatePlace, startedPlace, startsPlace, marksPlace, lastTime, startedIn, startsIn, waiting, finished}
+use Rattle.meaning.specs.Record.{recordAllowed, recordLength, estimatePlace, startedPlace, startsPlace, marksPlace, lastTime, startedIn, startsIn, waiting, finished}
 use Rattle.meaning.specs.Cycle.{estimateAllowed, clockFlags, clockStarts, startingLeaves, rootEnded, settledMarks, settledRecord}
-use Rattle.meaning.proofs.Records.{estimate-fits}
+use Rattle.part.proofs.Places.{parts-fit}
+use Rattle.meaning.proofs.Records.{still-long, estimate-fits}
 use Rattle.meaning.proofs.Tables.{table-held, root-there}
 
 -- the phase, by the root's mark
@@ -60,3 +61,16 @@ module _ (t r est m : List ℕ) (table : isTable t ≡ true) (e : estimateAllowe
       r₃-is ∙ rw (v-is ∙ v₁-is, estimate-whole, r₂-is, r₁-is, x-same) (moved r est fs ss y (omega (arith, estimate-fits t est e .0, table-held t table .1 .within .variables-fit)))
       in
       r₄-is ∙ rw (n-is ∙ n₁-is, m-is, third)
+
+-- the phase stands inside
+pub first-there : (t r s : List ℕ) → recordAllowed t r ≡ true → length s ≡ length r → 0 < length s
+first-there t r s allowed same = omega (arith, still-long t r s allowed same)
+
+-- what is copied stands inside, and has room in the record
+pub estimate-fit : (t est : List ℕ) (v w room : ℕ) → isTable t ≡ true → estimateAllowed t est ≡ true → v ≡ variables t → w ≡ v → recordLength ≤ room → (0 + w ≤ length est) × (estimatePlace + w ≤ room)
+estimate-fit t est v w room table e v-is w-is long =
+    let x = table-held t table in
+    (omega (arith, estimate-fits t est e .0), omega (arith, x .1 .within .variables-fit))
+
+pub marks-fit : (t : List ℕ) (n w held room : ℕ) → isTable t ≡ true → parts t ≤ held → n ≡ parts t → w ≡ n → recordLength ≤ room → (0 + w ≤ held) × (marksPlace + w ≤ room)
+marks-fit t n w held room table h n-is w-is long = (omega arith, omega (arith, parts-fit t table))

@@ -3,7 +3,7 @@ use Prim.Native.Nat.{ℕ, zero, suc, _+_, _-_, _≤_, _<_}
 use native.Mathlib.Nat.{zero-add}
 use native.Mathlib.Numerals.{add-one}
 use native.Mathlib.Omega.{arith}
-use mathlib.Core.Path.{_≡_, refl, sym, ap, _∙_}
+use mathlib.Core.Path.{_≡_, refl, sym, _∙_}
 use mathlib.Core.Bool.{Bool, true, false, cond, not, _&&_, _||_}
 use mathlib.Core.List.{List, [], _∷_}
 use lib.Dec.{eqb, leb}
@@ -23,25 +23,23 @@ use Rattle.meaning.proofs.Tables.{inside}
 use Rattle.settle.specs.Deciding.{pendingAfter, shows, worksWith}
 
 -- One part, by what the code reads of it
-module _ (t m : List ℕ) (p pending k x : ℕ) (e : Entry) (e-is : e ≡ entryAt Table t p) (k-is : k ≡ p) (x-is : x ≡ getD m k 0) where
-  pub shows-made : (not (eqb x 0) && ((eqb (e .kind) 1 || (eqb (e .kind) 2 || eqb (e .kind) 3)) || (not (eqb pending 0) && leb pending p))) ≡ shows t p (getD m p 0) pending
-  unfolding shows numberOf
-  shows-made = rw (x-is, k-is, e-is)
+module _ (t m : List ℕ) (p pending k : ℕ) (k-is : k ≡ p) where
+  pub pending-kept : getD m k 0 ≡ 0 → pending ≡ pendingAfter t p (getD m p 0) pending
+  unfolding pendingAfter
+  pending-kept z = rw (rw k-is at z)
 
-  mark-is : x ≡ getD m p 0
-  mark-is = x-is ∙ ap (λ i. getD m i 0) k-is
+  module _ (e : Entry) (e-is : e ≡ entryAt Table t p) where
+    pub shows-made : (not (eqb (getD m k 0) 0) && ((eqb (e .kind) 1 || (eqb (e .kind) 2 || eqb (e .kind) 3)) || (not (eqb pending 0) && leb pending p))) ≡ shows t p (getD m p 0) pending
+    unfolding shows numberOf
+    shows-made = rw (k-is, e-is)
 
-  pub pending-choice : (y : ℕ) → (x ≡ 0 → ⊥) → e .kind ≡ 7 → y ≡ endAt t p → y ≡ pendingAfter t p (getD m p 0) pending
-  unfolding pendingAfter numberOf
-  pending-choice y n c y-is = rw (← mark-is, ne-eqb x 0 n, rw e-is at c, y-is)
+    pub pending-choice : (y : ℕ) → (getD m k 0 ≡ 0 → ⊥) → e .kind ≡ 7 → y ≡ endAt t p → y ≡ pendingAfter t p (getD m p 0) pending
+    unfolding pendingAfter numberOf
+    pending-choice y n c y-is = rw (ne-eqb (getD m p 0) 0 (rw k-is at n), rw e-is at c, y-is)
 
-  pub pending-none : (x ≡ 0 → ⊥) → (e .kind ≡ 7 → ⊥) → 0 ≡ pendingAfter t p (getD m p 0) pending
-  unfolding pendingAfter numberOf
-  pending-none n c = rw (← mark-is, ne-eqb x 0 n, ne-eqb (entryAt Table t p .kind) 7 (rw e-is at c))
-
-pub pending-kept : (t m : List ℕ) (p pending k x : ℕ) → k ≡ p → x ≡ getD m k 0 → x ≡ 0 → pending ≡ pendingAfter t p (getD m p 0) pending
-unfolding pendingAfter
-pending-kept t m p pending k x k-is x-is z = rw (← k-is, ← x-is, z)
+    pub pending-none : (getD m k 0 ≡ 0 → ⊥) → (e .kind ≡ 7 → ⊥) → 0 ≡ pendingAfter t p (getD m p 0) pending
+    unfolding pendingAfter numberOf
+    pending-none n c = rw (ne-eqb (getD m p 0) 0 (rw k-is at n), ne-eqb (entryAt Table t p .kind) 7 (rw e-is at c))
 
 -- One turn. Of the marks before an end, one that is not set may be left out, and one that is set is enough
 module _ (e p m : ℕ) (ms : List ℕ) where

@@ -5,8 +5,8 @@ use crate::works::works;
 use allowed::examine;
 use allowed::values::estimate_allowed;
 use base::at;
-use base::copy;
-use base::put;
+use base::copy_inside;
+use base::store;
 use base::wide;
 use clocks::start_clocks;
 use marks::settled::settle_marks;
@@ -23,12 +23,13 @@ use part::held::variables;
 use record::fields::phase;
 ghost use mathlib.Core.Path.{_≡_};
 ghost use mathlib.Core.Bool.{true, cond};
+ghost use Prim.Native.Nat.{_≤_};
 ghost use lib.ListN.{length};
 ghost use Rattle.base.specs.Lists.{bytesAt};
 ghost use Rattle.meaning.specs.Sizes.{maxParts};
 ghost use Rattle.meaning.specs.Program.{parts};
 ghost use Rattle.meaning.specs.Table.{isTable};
-ghost use Rattle.meaning.specs.Record.{waiting, finished};
+ghost use Rattle.meaning.specs.Record.{recordAllowed, waiting, finished};
 ghost use Rattle.meaning.specs.Cycle.{estimateAllowed, rootEnded, settledMarks, settledRecord};
 ghost use Rattle.meaning.specs.Answers.{answerNumber, settleNumber};
 ghost use Rattle.meaning.specs.Operations.{Settled};
@@ -79,14 +80,16 @@ fn phase_after(m: &[u8]) -> u8
 // the record has before it takes the new ones.
 fn commit(t: &[u8], r: &mut [u8], est: &[u8], m: &[u8])
     requires { ⌜ isTable (now t) ≡ true ⌝ }
+    requires { ⌜ recordAllowed (now t) (now r) ≡ true ⌝ }
+    requires { ⌜ parts (now t) ≤ length (now m) ⌝ }
     requires { ⌜ estimateAllowed (now t) (now est) ≡ true ⌝ }
     requires { ⌜ bytesAt (now m) 0 (parts (now t)) ≡ settledMarks (now t) (now r) (now est) ⌝ }
     ensures { λ _. ⌜ now (r .exit) ≡ settledRecord (now (t .entry)) (now (r .entry)) (now (est .entry)) ⌝ }
 {
     start_clocks(t, r);
-    put(r, 0, phase_after(m));
-    copy(est, 0, r, ESTIMATE_PLACE, wide(variables(t)));
-    copy(m, 0, r, MARKS_PLACE, wide(parts(t)));
+    store(r, 0, phase_after(m));
+    copy_inside(est, 0, r, ESTIMATE_PLACE, wide(variables(t)));
+    copy_inside(m, 0, r, MARKS_PLACE, wide(parts(t)));
 }
 
 // Settles a cycle: refusals 9, 10, 14, 11, 13, 15.

@@ -1,6 +1,5 @@
 // Whether something is left that can end or decide: what refusal 15 asks of the marks after a
 // settling.
-use base::at;
 use base::wide;
 use meaning::Form;
 use meaning::Number;
@@ -9,7 +8,8 @@ use part::held::parts;
 use walk::walker::entry_at;
 ghost use mathlib.Core.Path.{_≡_};
 ghost use mathlib.Core.Bool.{true};
-ghost use lib.ListN.{getD};
+ghost use Prim.Native.Nat.{_<_, _≤_};
+ghost use lib.ListN.{length, getD};
 ghost use Rattle.base.specs.Lists.{bytesAt};
 ghost use Rattle.meaning.specs.Program.{parts};
 ghost use Rattle.meaning.specs.Table.{isTable};
@@ -19,19 +19,25 @@ ghost use Rattle.settle.specs.Deciding.{pendingAfter, shows};
 // Whether part p, where it is marked, shows that something is left: it is a leaf, or it stands beyond
 // the CHOICE that ends at `pending`, which has nothing marked inside then.
 fn shows(t: &[u8], m: &[u8], p: Number, pending: Number) -> bool
+    requires { ⌜ isTable (now t) ≡ true ⌝ }
+    requires { ⌜ parts (now t) ≤ length (now m) ⌝ }
+    requires { ⌜ p < parts (now t) ⌝ }
     ensures { λ b. ⌜ b ≡ shows (now (t .entry)) p (getD (now (m .entry)) p 0) pending ⌝ }
 {
     let part = entry_at(t, Form::Table, p);
     let kind = part.kind;
     let leaf = (kind == 1) | ((kind == 2) | (kind == 3));
-    (at(m, wide(p)) != 0) & (leaf | ((pending != 0) & (pending <= p)))
+    (m[wide(p)] != 0) & (leaf | ((pending != 0) & (pending <= p)))
 }
 
 // The end of the CHOICE that is still without a marked part inside after part p, 0 for none.
 fn pending_after(t: &[u8], m: &[u8], p: Number, pending: Number) -> Number
+    requires { ⌜ isTable (now t) ≡ true ⌝ }
+    requires { ⌜ parts (now t) ≤ length (now m) ⌝ }
+    requires { ⌜ p < parts (now t) ⌝ }
     ensures { λ e. ⌜ e ≡ pendingAfter (now (t .entry)) p (getD (now (m .entry)) p 0) pending ⌝ }
 {
-    if at(m, wide(p)) == 0 {
+    if m[wide(p)] == 0 {
         return pending;
     }
     let part = entry_at(t, Form::Table, p);
@@ -41,6 +47,7 @@ fn pending_after(t: &[u8], m: &[u8], p: Number, pending: Number) -> Number
 // Whether a leaf or a deciding CHOICE is marked.
 pub(crate) fn works(t: &[u8], m: &[u8]) -> bool
     requires { ⌜ isTable (now t) ≡ true ⌝ }
+    requires { ⌜ parts (now t) ≤ length (now m) ⌝ }
     ensures { λ b. ⌜ b ≡ worksFrom (now (t .entry)) 0 (bytesAt (now (m .entry)) 0 (parts (now (t .entry)))) ⌝ }
 {
     let mut pending: Number = 0;

@@ -1,47 +1,39 @@
 -- Reading, giving back and checking: one law for each place where the code gives its answer.
-use Prim.Native.Nat.{ℕ, _+_, _*_, _≤_, _<_}
+use Prim.Native.Nat.{ℕ, suc, _+_, _*_, _≤_, _<_}
 use native.Mathlib.Omega.{arith}
-use mathlib.Core.Path.{_≡_, refl, sym, ap, ap₂, _∙_}
-use mathlib.Core.Bool.{Bool, true, false, not, cond, _&&_}
+use mathlib.Core.Path.{_≡_, refl, sym, ap, ap₂, subst, _∙_}
+use mathlib.Core.Bool.{Bool, true, false, not, cond, _&&_, true≢false}
 use mathlib.Core.Option.{some}
 use mathlib.Core.List.{List, [], _∷_, _++_}
-use lib.Dec.{eqb}
+use lib.Dec.{eqb, leb}
 use lib.ListN.{length, drop}
 use lib.Seq.{sets, sets-eq}
 use borrow.Author.Tests.{le-leb, lt-leb, eq-eqb, ne-eqb, not-true, not-false}
-use Rattle.base.specs.Lists.{flat, same}
-use Rattle.base.proofs.Lists.{length-pieces, same-append, same-refl}
+use Rattle.base.specs.Lists.{flat, same, all}
+use Rattle.base.proofs.Lists.{length-pieces, same-append, same-refl, and-left, and-right}
 use Rattle.base.proofs.Stores.{sets-append}
 use Rattle.meaning.specs.declared.Form.{Form}
 use Rattle.meaning.specs.declared.Form.the-variants.{File, Table}
 use Rattle.meaning.specs.declared.Refusal.{Refusal}
 use Rattle.meaning.specs.declared.Answer.{Answer}
 use Rattle.meaning.specs.declared.Answer.the-variants.{Refused}
-use Rattle.meaning.specs.Sizes.{noPart, maxParts, headerLength, linksLength, lengthOf, bytesAt}
-use Rattle.meaning.specs.Tree.{Part}
-use Rattle.meaning.specs.Program.{parts, variables, clocks, sizeBytes, entries, isTree, kindByte, entryOperand, arrays, programRefusal}
-use Rattle.meaning.specs.Table.{Row, linkBytes, block, tableOf, compiled, fileIn, isTable, tableRefusal, readRefusal, readInto, writeRefusal, writtenInto}
+use Rattle.meaning.specs.Sizes.{noPart, maxParts, maxDepth, headerLength, linksLength, lengthOf, bytesAt}
+use Rattle.meaning.specs.Tree.{Part, size, depth}
+use Rattle.meaning.specs.Program.{parts, variables, clocks, sizesAllowed, sizeBytes, entries, allowedEntry, knownEntry, treeOf, isTree, kindByte, entryOperand, arrays, programRefusal}
+use Rattle.meaning.specs.Table.{Row, linkBytes, rowBytes, block, tableOf, compiled, fileIn, isTable, tableRefusal, readRefusal, readInto, writeRefusal, writtenInto}
 use Rattle.meaning.specs.Answers.{answerNumber}
 use Rattle.meaning.proofs.Answers.{is-refused}
-use Rattle.meaning.proofs.Files.{Holds, accepted, length-entries, sizes-back}
-use Rattle.meaning.proofs.Tables.{rows-entries, length-rows, compiled-is, table-checked}
-use Rattle.walk.specs.Walk.{partAt, linksOf, Linked}
+use Rattle.meaning.proofs.Files.{Holds, accepted, held-tree, length-entries, sizes-back}
+use Rattle.meaning.proofs.Tables.{rows-entries, length-rows, compiled-is, table-held, table-checked}
+use Rattle.walk.specs.Walk.{OneTree, partAt, rowsOf, partsEnd}
 use Rattle.walk.proofs.Standing.{Alone, alone, alone-part}
-use Rattle.table.specs.Links.{rowsFrom, tableFrom, every, rowMatches}
-use Rattle.table.proofs.TableRows.{rows-from, rows-match}
+use Rattle.program.proofs.Refusals.{too-short, sizes-refused, length-refused, parts-refused, some-part, no-end, found-whole, parts-pass}
+use Rattle.table.specs.Checking.{endHeld, Ending, rowsAre}
+use Rattle.table.proofs.Ends.{ending-found, table-ends}
+use Rattle.table.proofs.RowChecks.{rows-same}
+use Rattle.table.proofs.TableRows.{held-rows}
 
--- the sizes of bytes that hold a tree and its rows, from its entries and its links, are its table
-rows-table : (form : Form) (s : List ℕ) (p : Part) → Holds form s p → (zeros ls : List ℕ) → length zeros ≡ linksLength * maxParts → ls ≡ sets zeros 0 (linksOf p)
-    → tableFrom form s ls ≡ tableOf (variables s) (clocks s) p
-unfolding tableOf tableFrom linksOf
-rows-table form s p h zeros ls l e =
-    let rows : List Row = block p .rows 0 noPart noPart in
-    let long : length (flat linkBytes rows) ≡ linksLength * length rows = length-pieces linkBytes linksLength (λ r. refl) rows in
-    let fits : 0 + length (flat linkBytes rows) ≤ length zeros = omega (arith, length-rows p 0 noPart noPart, h .within .size-fits) in
-    ap₂ (λ (a b : List ℕ). a ++ b)
-    (sizes-back s (omega (arith, h .parts-are, h .within .size-fits)) ∙ ap (λ (n : ℕ). sizeBytes n (variables s) (clocks s)) (h .parts-are))
-    (rows-from form s ls rows (drop (0 + length (flat linkBytes rows)) zeros) (rows-entries p 0 noPart noPart ∙ sym (h .entries-are)) (e ∙ sets-eq (flat linkBytes rows) zeros 0 fits))
-
+-- An accepted program has one tree
 module _ (form : Form) (s : List ℕ) (h : programRefusal form s ≡ 0) where
   abbrev part : Part
   part = accepted form s h .0
@@ -52,19 +44,30 @@ module _ (form : Form) (s : List ℕ) (h : programRefusal form s ≡ 0) where
   part-there : partAt (entries form s) 0 ≡ part
   part-there = let same-tree : some (partAt (entries form s) 0) ≡ some part = sym (alone-part form s tree-alone) ∙ accepted form s h .1 in cc
 
-  -- what is written of an accepted program's sizes, entries and links is its table
-  rows-compiled : (zeros ls : List ℕ) → length zeros ≡ linksLength * maxParts → Linked form s (programRefusal form s) zeros ls → tableFrom form s ls ≡ compiled form s
-  rows-compiled zeros ls l e =
-      rows-table form s part (accepted form s h .2) zeros ls l (e .stored h ∙ ap (λ (p : Part). sets zeros 0 (linksOf p)) part-there) ∙ sym (compiled-is form s part (accepted form s h .1))
+-- An accepted file is written as its table: its sizes, then the rows of its tree
+module _ (s : List ℕ) (h : programRefusal File s ≡ 0) where
+  holds : Holds File s (part File s h)
+  holds = accepted File s h .2
 
-  pub table-compiled : (zeros ls out out₁ : List ℕ) → length zeros ≡ linksLength * maxParts → Linked form s (programRefusal form s) zeros ls → out₁ ≡ sets out 0 (tableFrom form s ls)
-      → out₁ ≡ sets out 0 (compiled form s)
-  table-compiled zeros ls out out₁ l e w = w ∙ ap (λ (t : List ℕ). sets out 0 t) (rows-compiled zeros ls l e)
+  abbrev rows : List Row
+  rows = block (part File s h) .rows 0 noPart noPart
 
--- The sizes and the rows, one after the other
-pub table-written : (form : Form) (s ls out out₁ out₂ : List ℕ) → out₁ ≡ sets out 0 (bytesAt s 0 headerLength) → out₂ ≡ sets out₁ headerLength (rowsFrom form s ls 0 (parts s)) → out₂ ≡ sets out 0 (tableFrom form s ls)
-unfolding tableFrom
-table-written form s ls out out₁ out₂ h₁ h₂ = rw (h₂, h₁) (sets-append out 0 headerLength (bytesAt s 0 headerLength) (rowsFrom form s ls 0 (parts s)) refl)
+  pub file-tree : OneTree s
+  file-tree = record { long = omega (arith, holds .length-is); part = tree-alone File s h .part; is = tree-alone File s h .is }
+
+  rows-are : rowsOf s ≡ flat rowBytes rows
+  unfolding rowsOf entries
+  rows-are = rw (part-there File s h) (held-rows s rows 0 (parts s) (rows-entries (part File s h) 0 noPart noPart ∙ sym (holds .entries-are)))
+
+  sizes-are : bytesAt s 0 headerLength ≡ sizeBytes (size (part File s h)) (variables s) (clocks s)
+  sizes-are = sizes-back s (omega (arith, holds .parts-are, holds .within .size-fits)) ∙ ap (λ (n : ℕ). sizeBytes n (variables s) (clocks s)) (holds .parts-are)
+
+  pub table-written : (out out₁ out₂ : List ℕ) → out₁ ≡ sets out 0 (bytesAt s 0 headerLength) → out₂ ≡ sets out₁ headerLength (rowsOf s) → out₂ ≡ sets out 0 (compiled File s)
+  unfolding tableOf
+  table-written out out₁ out₂ h₁ h₂ =
+      rw (compiled-is File s (part File s h) (accepted File s h .1), h₂, h₁, rows-are)
+      (sets-append out 0 headerLength (bytesAt s 0 headerLength) (flat rowBytes rows) refl
+      ∙ ap (λ (l : List ℕ). sets out 0 (l ++ flat rowBytes rows)) sizes-are)
 
 -- The bytes that are given back: the sizes, then the two arrays
 pub arrays-written : (t out out₁ out₂ : List ℕ) → out₁ ≡ sets out headerLength (flat kindByte (entries Table t)) → out₂ ≡ sets out₁ (headerLength + parts t) (flat entryOperand (entries Table t))
@@ -86,20 +89,36 @@ front (a ∷ b ∷ []) n h = absurd (omega arith)
 front (a ∷ b ∷ c ∷ t) n h = refl
 
 module _ (t : List ℕ) where
-  pub table-refused : (a : Answer) (r : Refusal) → answerNumber a ≡ programRefusal Table t → a ≡ Refused r → false ≡ isTable t
-  table-refused a r e d = sym (table-checked t ∙ rw (ne-eqb (programRefusal Table t) 0 (is-refused a r (programRefusal Table t) e d)))
+  refused-by : (n : ℕ) → programRefusal Table t ≡ suc n → false ≡ isTable t
+  refused-by n e = sym (table-checked t ∙ rw (ne-eqb (programRefusal Table t) 0 (λ z. omega (arith, e, z))))
 
-  pub table-matched : (zeros ls : List ℕ) (r : Bool) → programRefusal Table t ≡ 0 → length zeros ≡ linksLength * maxParts
-      → Linked Table t (programRefusal Table t) zeros ls → r ≡ every (rowMatches t ls) 0 (parts t) → r ≡ isTable t
-  unfolding tableFrom
-  table-matched zeros ls r h l e m =
-      let long : length t ≡ lengthOf Table (parts t) = accepted Table t h .2 .length-is in
-      let X : List ℕ = bytesAt t 0 headerLength in
-      let R : List ℕ = rowsFrom Table t ls 0 (parts t) in
-      let D : List ℕ = drop headerLength t in
-      let whole : same (compiled Table t) t ≡ same (X ++ R) (X ++ D) = ap₂ same (sym (rows-compiled Table t h zeros ls l e)) (front t (8 * parts t) long) in
-      let rest : same (X ++ R) (X ++ D) ≡ same R D = same-append X R X D refl ∙ ap (λ (b : Bool). b && same R D) (same-refl X) in
-      m ∙ rows-match t ls long ∙ sym (table-checked t ∙ ap (λ (b : Bool). b && same (compiled Table t) t) (eq-eqb (programRefusal Table t) 0 h) ∙ whole ∙ rest)
+  pub table-short : length t < headerLength → false ≡ isTable t
+  table-short h = refused-by 0 (sym (too-short Table t h))
+
+  pub table-sized : (r : Bool) → headerLength ≤ length t → r ≡ sizesAllowed t → not r ≡ true → false ≡ isTable t
+  table-sized r h e f = refused-by 1 (sym (sizes-refused Table t r h e f))
+
+  module _ (r : Bool) (n m : ℕ) (h : headerLength ≤ length t) (e : r ≡ sizesAllowed t) (f : not r ≡ false) (n-is : n ≡ parts t) (m-is : m ≡ lengthOf Table n) where
+    pub table-long : (length t ≡ m → ⊥) → false ≡ isTable t
+    table-long g = refused-by 2 (sym (length-refused Table t r n m h e f n-is m-is g))
+
+    module _ (long : length t ≡ m) (x k : ℕ) (x-is : x ≡ partsEnd Table t (endHeld t) maxDepth 1 0) (k-is : k ≡ parts t) where
+      pub ends-refused : (x ≡ k → ⊥) → false ≡ isTable t
+      ends-refused g = go (isTable t) refl
+        where
+          go : (y : Bool) → isTable t ≡ y → false ≡ isTable t
+          go true z = absurd (no-end Table t (endHeld t) x k x-is k-is g (table-ends t z))
+          go false z = sym z
+
+      module _ (g : x ≡ k) where
+        pub ends-found : Ending t
+        ends-found =
+            let some : 1 ≤ parts t = some-part r t e f in
+            ending-found t (found-whole Table t (endHeld t) x k x-is k-is some g)
+            (sym (parts-refused Table t r n m h e f n-is m-is 0 long (parts-pass Table t (endHeld t) x k x-is k-is some g)))
+
+        pub rows-decide : (b : Bool) → b ≡ rowsAre t → b ≡ isTable t
+        rows-decide b b-is = sym (table-checked t ∙ rw (ends-found .accepted) (sym (b-is ∙ rows-same t ends-found)))
 
   pub checked : (r : Bool) → r ≡ isTable t → r ≡ true → 0 ≡ tableRefusal t
   unfolding tableRefusal
@@ -112,6 +131,13 @@ module _ (t : List ℕ) where
 -- An answer with what stands in the buffer: it is left as it is where the call is refused, and takes what is new where it is not
 effect : (n m : ℕ) (new out out₁ : List ℕ) → n ≡ m → out₁ ≡ cond (eqb n 0) new out → (n ≡ m) × (out₁ ≡ cond (eqb m 0) new out)
 effect n m new out out₁ e h = (e, h ∙ ap (λ (k : ℕ). cond (eqb k 0) new out) e)
+
+-- There is room for what is written
+pub read-fits : (f : List ℕ) (n m room : ℕ) → programRefusal File f ≡ 0 → n ≡ parts f → m ≡ lengthOf Table n → m ≤ room → (programRefusal File f ≡ 0) × (lengthOf Table (parts f) ≤ room)
+read-fits f n m room h n-is m-is l = (h, omega (arith, m-is ∙ ap (lengthOf Table) n-is))
+
+pub write-fits : (t : List ℕ) (b : Bool) (n m room : ℕ) → b ≡ isTable t → not b ≡ false → n ≡ parts t → m ≡ lengthOf File n → m ≤ room → (lengthOf Table (parts t) ≤ length t) × (lengthOf File (parts t) ≤ room)
+write-fits t b n m room b-is d n-is m-is l = (omega (arith, table-held t (sym b-is ∙ not-false b d) .1 .length-is), omega (arith, m-is ∙ ap (lengthOf File) n-is))
 
 -- Reading, at each of its answers
 module _ (f out : List ℕ) where

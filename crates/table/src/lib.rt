@@ -1,41 +1,44 @@
 // The location table of a program: written from a program file, given back as one, and checked.
 pub mod arrays;
-pub mod rows;
+pub mod checking;
 
 use crate::arrays::write_arrays;
-use crate::rows::rows_match;
-use crate::rows::write_rows;
+use crate::checking::parts_end;
+use crate::checking::rows_match;
 use base::copy;
 use meaning::Answer;
 use meaning::Form;
 use meaning::Refusal;
 use meaning::sizes::HEADER;
-use meaning::sizes::MAX_LINKS;
+use meaning::sizes::MAX_DEPTH;
 use part::held::length_of;
 use part::held::parts;
+use part::held::sizes_allowed;
 use program::examine;
+use walk::writing::write_rows;
 ghost use mathlib.Core.Path.{_≡_};
+ghost use Prim.Native.Nat.{_≤_};
 ghost use lib.ListN.{length};
 ghost use lib.Seq.{sets};
-ghost use Rattle.meaning.specs.declared.Form.the-variants.{File};
-ghost use Rattle.meaning.specs.Table.{fileIn, isTable, tableRefusal, readRefusal, readInto, writeRefusal, writtenInto};
+ghost use Rattle.meaning.specs.declared.Form.the-variants.{File, Table};
+ghost use Rattle.meaning.specs.Sizes.{lengthOf};
+ghost use Rattle.meaning.specs.Program.{parts, programRefusal};
+ghost use Rattle.meaning.specs.Table.{compiled, fileIn, isTable, tableRefusal, readRefusal, readInto, writeRefusal, writtenInto};
 ghost use Rattle.meaning.specs.Answers.{answerNumber};
-ghost use Rattle.table.specs.Links.{tableFrom};
 
 // Reads a program file into its location table: refusals 1 to 7, then 8.
 pub fn compile(file: &[u8], table: &mut [u8]) -> Answer
     ensures { λ r. ⌜ answerNumber r ≡ readRefusal (now (file .entry)) (length (now (table .entry))) ⌝ }
     ensures { λ _. ⌜ now (table .exit) ≡ readInto (now (file .entry)) (now (table .entry)) ⌝ }
 {
-    let mut links = [0u8; MAX_LINKS];
-    let answer = examine(file, Form::File, &mut links);
+    let answer = examine(file);
     let Answer::Done = answer else {
         return answer;
     };
     if table.len() < length_of(Form::Table, parts(file)) {
         return Answer::Refused(Refusal::BufferTooShort);
     }
-    write_table(file, &links, table);
+    write_table(file, table);
     Answer::Done
 }
 
@@ -69,24 +72,35 @@ pub fn check(table: &[u8]) -> Answer
 pub fn is_table(table: &[u8]) -> bool
     ensures { λ r. ⌜ r ≡ isTable (now (table .entry)) ⌝ }
 {
-    let mut links = [0u8; MAX_LINKS];
-    let answer = examine(table, Form::Table, &mut links);
-    let Answer::Done = answer else {
+    if table.len() < HEADER {
         return false;
-    };
-    rows_match(table, &links)
+    }
+    if !sizes_allowed(table) {
+        return false;
+    }
+    if table.len() != length_of(Form::Table, parts(table)) {
+        return false;
+    }
+    if parts_end(table, 0, 1, MAX_DEPTH) != parts(table) {
+        return false;
+    }
+    rows_match(table)
 }
 
-// Writes a table of a file's sizes and entries and of links.
-fn write_table(file: &[u8], links: &[u8], table: &mut [u8])
-    ensures { λ _. ⌜ now (table .exit) ≡ sets (now (table .entry)) 0 (tableFrom File (now (file .entry)) (now (links .entry))) ⌝ }
+// Writes the table of an accepted file: its sizes, and a row for each part.
+fn write_table(file: &[u8], table: &mut [u8])
+    requires { ⌜ programRefusal File (now file) ≡ 0 ⌝ }
+    requires { ⌜ lengthOf Table (parts (now file)) ≤ length (now table) ⌝ }
+    ensures { λ _. ⌜ now (table .exit) ≡ sets (now (table .entry)) 0 (compiled File (now (file .entry))) ⌝ }
 {
     copy(file, 0, table, 0, HEADER);
-    write_rows(file, Form::File, links, table);
+    write_rows(file, table);
 }
 
 // Writes the file that a table holds.
 fn write_file(table: &[u8], file: &mut [u8])
+    requires { ⌜ lengthOf Table (parts (now table)) ≤ length (now table) ⌝ }
+    requires { ⌜ lengthOf File (parts (now table)) ≤ length (now file) ⌝ }
     ensures { λ _. ⌜ now (file .exit) ≡ sets (now (file .entry)) 0 (fileIn (now (table .entry))) ⌝ }
 {
     copy(table, 0, file, 0, HEADER);

@@ -1,7 +1,7 @@
 // The line of the marked parts.
+use crate::fields::is_marked;
 use meaning::Number;
 use part::held::parts;
-use record::fields::is_marked;
 use text::decimal::write_number;
 use text::words::write_word;
 ghost use Prim.Native.Nat.{_+_, _<_, _^_};

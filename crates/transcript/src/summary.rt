@@ -1,12 +1,12 @@
 // The summary after the last call.
+use crate::fields::is_started;
+use crate::fields::last_time;
+use crate::fields::start_of;
 use meaning::sizes::ESTIMATE_PLACE;
 use meaning::sizes::FINISHED;
 use part::held::clocks;
 use part::held::variables;
-use record::fields::is_started;
-use record::fields::last_time;
 use record::fields::phase;
-use record::fields::start_of;
 use text::decimal::write_number;
 use text::hexadecimal::write_pairs;
 use text::words::write_numbered;

@@ -3,5 +3,6 @@ pub mod Standing
 pub mod Storing
 pub mod Numbers
 pub mod Machine
-pub mod Reaching
-pub mod Linking
+pub mod Ending
+pub mod Walking
+pub mod Forests

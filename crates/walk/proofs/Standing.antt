@@ -1,5 +1,5 @@
 -- The walk over a tree: what stands at a part, inside it and after it, and the loop over its children.
-use Prim.Native.Nat.{ℕ, suc, _+_, _-_, _<_}
+use Prim.Native.Nat.{ℕ, suc, _+_, _-_, _<_, _≤_}
 use native.Mathlib.Omega.{arith}
 use native.Mathlib.Numerals.{add-one}
 use mathlib.Core.Path.{_≡_, refl, sym, ap, _∙_}
@@ -13,10 +13,12 @@ use borrow.Author.Tests.{ltb-true, ltb-false}
 use Rattle.base.specs.Lists.{sum}
 use Rattle.meaning.specs.declared.Entry.{Entry}
 use Rattle.meaning.specs.declared.Form.{Form}
+use Rattle.meaning.specs.Sizes.{lengthOf}
 use Rattle.meaning.specs.Kinds.{kindOf}
 use Rattle.meaning.specs.Tree.{Part, kind, children, size}
 use Rattle.meaning.specs.Program.{parts, entries, entryAt, place, trees, follow, treeOf, isTree, arityOf}
-use Rattle.walk.specs.Walk.{Stands, firstOf, partAt}
+use Rattle.walk.specs.Walk.{Stands, Walkable, firstOf, partAt}
+use Rattle.part.specs.Held.{Held}
 use Rattle.meaning.proofs.Trees.{All, part-ind, size-law}
 use Rattle.meaning.proofs.Parsing.{Placed, placed}
 use Rattle.meaning.proofs.Files.{some-part, single-part}
@@ -77,6 +79,13 @@ stands-below form s n st = go (ltb n (parts s)) refl
     go : (b : Bool) → ltb n (parts s) ≡ b → n < parts s
     go true e = ltb-true n (parts s) e
     go false e = absurd (let z : _≡_ {A = ℕ} 0 1 = cc (st .is, ap trees (entries-past form s n (ltb-false n (parts s) e))) in omega arith)
+
+-- and can be read there
+pub stands-held : (form : Form) (s : List ℕ) (n : ℕ) → lengthOf form (parts s) ≤ length s → Stands (entries form s) n → Held form s n
+stands-held form s n long st = record { long = long; there = stands-below form s n st }
+
+pub walkable-held : (form : Form) (s : List ℕ) (n : ℕ) → Walkable form s n → Held form s n
+walkable-held form s n w = stands-held form s n (w .long) (w .stands)
 
 -- The entry of the part that stands at a number, and the parts inside it
 pub stands-entry : (form : Form) (s : List ℕ) (n : ℕ) (st : Stands (entries form s) n)

@@ -1,5 +1,6 @@
-// Going over a program that is held in a file or in a table: the walker, and the one walk over its
-// tree, which finds its depth and its links.
-pub mod links;
+// Going over a program that is held in a file or in a table: the walker, the walk over the tree of a
+// file, and the writing of its rows.
+pub mod rows;
 pub mod walk;
 pub mod walker;
+pub mod writing;

@@ -1,59 +1,62 @@
-// The walk over a tree: a part recurses into its children, which it takes from the walker. One walk
-// finds how far the parts reach and leaves their links.
-use crate::links::next_of;
-use crate::links::put_links;
+// The walk over the parts of a file: it goes from a part into its children, which it takes from the
+// walker, and finds whether the parts are a tree that is allowed.
 use crate::walker::entry_at;
-use crate::walker::root_extent;
 use meaning::Form;
 use meaning::Number;
-use meaning::sizes::MAX_DEPTH;
-use meaning::sizes::NO_PART;
-use part::kinds::arity;
+use part::held::read_sizes;
+use part::kinds::Children;
+use part::kinds::children_of;
 ghost use mathlib.Core.Path.{_≡_};
-ghost use Rattle.meaning.specs.Sizes.{maxDepth};
-ghost use Rattle.meaning.specs.Program.{entries};
-ghost use Rattle.walk.specs.Walk.{Stands, partAt, reached, LinksInside, LinksAll};
+ghost use Prim.Native.Nat.{_<_, _≤_};
+ghost use lib.ListN.{length};
+ghost use Rattle.meaning.specs.declared.Form.the-variants.{File};
+ghost use Rattle.meaning.specs.Sizes.{lengthOf};
+ghost use Rattle.meaning.specs.Program.{parts};
+ghost use Rattle.walk.specs.Walk.{anyEnd, partsEnd};
 
-// How far a part reaches: its end, unless it is deeper than allowed.
-pub enum Extent {
-    End(Number),
-    TooDeep,
-}
-
-// Where part p ends, if it stands in no more than `levels` levels, with the links of all parts inside
-// it. The parts that are left fall at each call, and no call is deeper than `levels`.
-pub(crate) fn walk(s: &[u8], form: Form, out: &mut [u8], p: Number, levels: u8) -> Extent
-    requires { ⌜ Stands (entries form (now s)) p ⌝ }
-    ensures { λ r. ⌜ (r ≡ reached levels (partAt (entries form (now (s .entry))) p) p) × LinksInside levels (partAt (entries form (now (s .entry))) p) p (now (out .entry)) (now (out .exit)) ⌝ }
+// Where `count` parts end that stand one after the other from number p on, 0 where they do not stand
+// there, one is not allowed, or one stands in more than `levels` levels. A part recurses into its
+// children: the parts that are left fall at each call, and no call is deeper than `levels`.
+pub(crate) fn parts_end(s: &[u8], p: Number, count: Number, levels: u8) -> Number
+    requires { ⌜ lengthOf File (parts (now s)) ≤ length (now s) ⌝ }
+    requires { ⌜ 0 < levels ⌝ }
+    ensures { λ r. ⌜ r ≡ partsEnd File (now (s .entry)) anyEnd levels count p ⌝ }
 {
-    if levels == 0 {
-        return Extent::TooDeep;
-    }
-    let part = entry_at(s, form, p);
-    let mut due = arity(part);
-    let mut q = p + 1;
+    let sizes = read_sizes(s);
+    let below = levels - 1;
+    let mut due = count;
+    let mut q = p;
     while due > 0 {
-        let Extent::End(e) = walk(s, form, out, q, levels - 1) else {
-            return Extent::TooDeep;
+        if sizes.parts <= q {
+            return 0;
+        }
+        let part = entry_at(s, Form::File, q);
+        let Children::Count(inside) = children_of(sizes.variables, sizes.clocks, part) else {
+            return 0;
         };
-        let next = next_of(part.kind, q, e, 1 < due);
-        put_links(out, q, e, p, next);
+        let mut e = q + 1;
+        if inside > 0 {
+            if below == 0 {
+                return 0;
+            }
+            e = parts_end(s, q + 1, inside, below);
+            if e == 0 {
+                return 0;
+            }
+        }
         q = e;
         due = due - 1;
     }
-    Extent::End(q)
+    q
 }
 
-// The same from the root, with its own links.
-pub fn walk_all(s: &[u8], form: Form, out: &mut [u8]) -> Extent
-    requires { ⌜ Stands (entries form (now s)) 0 ⌝ }
-    ensures { λ r. ⌜ r ≡ reached maxDepth (partAt (entries form (now (s .entry))) 0) 0 ⌝ }
-    ensures { λ _. ⌜ LinksAll maxDepth (partAt (entries form (now (s .entry))) 0) (now (out .entry)) (now (out .exit)) ⌝ }
+// Where the part at p ends.
+pub(crate) fn part_end(s: &[u8], p: Number, levels: u8) -> Number
+    requires { ⌜ lengthOf File (parts (now s)) ≤ length (now s) ⌝ }
+    ensures { λ r. ⌜ r ≡ partsEnd File (now (s .entry)) anyEnd levels 1 p ⌝ }
 {
-    let extent = root_extent(s, form, out, MAX_DEPTH);
-    let Extent::End(e) = extent else {
-        return extent;
-    };
-    put_links(out, 0, e, NO_PART, NO_PART);
-    extent
+    if levels == 0 {
+        return 0;
+    }
+    parts_end(s, p, 1, levels)
 }

@@ -1,16 +1,20 @@
 // The walker: it carries the borrowed file, or table, and the number of the next part. A thin layer
 // above functions on slice and number: it is made at the root, stepped on, and taken apart for the
-// entry of its part (`read_entry`) and for where the part's subtree ends (`walk`). Every other caller
+// entry of its part (`read_entry`) and for where the part's subtree ends (`part_end`). Every other caller
 // goes through `entry_at` and `root_extent`, whose parameters are plain.
-use crate::walk::Extent;
-use crate::walk::walk;
+use crate::walk::part_end;
 use meaning::Entry;
 use meaning::Form;
 use meaning::Number;
 use part::held::read_entry;
 ghost use mathlib.Core.Path.{_≡_};
-ghost use Rattle.meaning.specs.Program.{entries, entryAt};
-ghost use Rattle.walk.specs.Walk.{Stands, partAt, reached, LinksInside};
+ghost use Rattle.meaning.specs.declared.Form.the-variants.{File};
+ghost use Prim.Native.Nat.{_≤_};
+ghost use lib.ListN.{length};
+ghost use Rattle.meaning.specs.Sizes.{lengthOf};
+ghost use Rattle.meaning.specs.Program.{parts, entryAt};
+ghost use Rattle.part.specs.Held.{Held};
+ghost use Rattle.walk.specs.Walk.{anyEnd, partsEnd};
 
 pub struct Walker<'a> {
     pub file: &'a [u8],
@@ -36,6 +40,7 @@ pub fn stepped<'a>(w: Walker<'a>, p: Number) -> Walker<'a>
 
 // The kind and the operand of the part at the walker.
 pub fn part<'a>(w: Walker<'a>, form: Form) -> Entry
+    requires { ⌜ Held form (now (w .file)) (w .next) ⌝ }
     ensures { λ e. ⌜ e ≡ entryAt form (now (w .entry .file)) (w .entry .next) ⌝ }
 {
     read_entry(w.file, form, w.next)
@@ -43,24 +48,24 @@ pub fn part<'a>(w: Walker<'a>, form: Form) -> Entry
 
 // What s holds of part p, by way of a walker.
 pub fn entry_at(s: &[u8], form: Form, p: Number) -> Entry
+    requires { ⌜ Held form (now s) p ⌝ }
     ensures { λ e. ⌜ e ≡ entryAt form (now (s .entry)) p ⌝ }
 {
     part(stepped(root(s), p), form)
 }
 
-// Where the part at the walker ends, if it stands in no more than `levels` levels, with the links of
-// all parts inside it.
-pub(crate) fn extent<'a, 'b>(w: Walker<'a>, form: Form, out: &'b mut [u8], levels: u8) -> Extent
-    requires { ⌜ Stands (entries form (now (w .file))) (w .next) ⌝ }
-    ensures { λ r. ⌜ (r ≡ reached levels (partAt (entries form (now (w .entry .file))) (w .entry .next)) (w .entry .next)) × LinksInside levels (partAt (entries form (now (w .entry .file))) (w .entry .next)) (w .entry .next) (now (out .entry)) (now (out .exit)) ⌝ }
+// Where the part at the walker ends, 0 where no part that is allowed stands there within `levels` levels.
+pub(crate) fn extent<'a>(w: Walker<'a>, levels: u8) -> Number
+    requires { ⌜ lengthOf File (parts (now (w .file))) ≤ length (now (w .file)) ⌝ }
+    ensures { λ r. ⌜ r ≡ partsEnd File (now (w .entry .file)) anyEnd levels 1 (w .entry .next) ⌝ }
 {
-    walk(w.file, form, out, w.next, levels)
+    part_end(w.file, w.next, levels)
 }
 
 // The same of the root of s, by way of a walker.
-pub(crate) fn root_extent(s: &[u8], form: Form, out: &mut [u8], levels: u8) -> Extent
-    requires { ⌜ Stands (entries form (now s)) 0 ⌝ }
-    ensures { λ r. ⌜ (r ≡ reached levels (partAt (entries form (now (s .entry))) 0) 0) × LinksInside levels (partAt (entries form (now (s .entry))) 0) 0 (now (out .entry)) (now (out .exit)) ⌝ }
+pub fn root_extent(s: &[u8], levels: u8) -> Number
+    requires { ⌜ lengthOf File (parts (now s)) ≤ length (now s) ⌝ }
+    ensures { λ r. ⌜ r ≡ partsEnd File (now (s .entry)) anyEnd levels 1 0 ⌝ }
 {
-    extent(root(s), form, out, levels)
+    extent(root(s), levels)
 }

@@ -1,6 +1,6 @@
 -- `examine` meets its contract: the first test that fails gives its number.
-use Rattle.allowed.proofs.Running.{not-table, not-allowed, run-over, goes-on}
 use borrow.Author.Needs.{needs}
+use Rattle.allowed.proofs.Running.{is-table, not-table, not-allowed, run-over, goes-on}
 use Rattle.allowed.proofs.examine.Statement.{statement}
 use Rattle.allowed.proofs.examine.Tie as tie
 
@@ -11,7 +11,7 @@ returns : tie.Need-returns
 returns c = search not-table
 
 is-allowed-requires : tie.Need-is-allowed-requires
-is-allowed-requires c κs = search needs
+is-allowed-requires c κs = search is-table
 
 returns-2 : tie.Need-returns-2
 returns-2 c = search not-allowed

@@ -1,9 +1,11 @@
 -- `is_allowed` meets its contract: each clause of an allowed record has its function.
-use mathlib.Core.Path.{refl}
-use Rattle.meaning.specs.Record.{recordAllowed}
 use borrow.Author.Needs.{needs}
+use Rattle.allowed.proofs.Running.{too-short, fields-refused, fields-pass}
 use Rattle.allowed.proofs.is_allowed.Statement.{statement}
 use Rattle.allowed.proofs.is_allowed.Tie as tie
+
+returns : tie.Need-returns
+returns c = search too-short
 
 rest-zero-requires : tie.Need-rest-zero-requires
 rest-zero-requires c κs = search needs
@@ -20,17 +22,21 @@ root-allowed-requires c κs = search needs
 parts-allowed-requires : tie.Need-parts-allowed-requires
 parts-allowed-requires c κs = search needs
 
-returns : tie.Need-returns
-unfolding recordAllowed
-returns c = rw (c .parts-allowed .ensures, c .before .root-allowed .ensures, c .before .before .clocks-allowed .ensures, c .before .before .before .values-allowed .ensures, c .before .before .before .before .rest-zero .ensures) refl
+returns-2 : tie.Need-returns-2
+returns-2 c = search fields-refused
+
+returns-3 : tie.Need-returns-3
+returns-3 c = search fields-pass
 
 pub is-allowed-spec : {M : Type 1} → statement M
 is-allowed-spec =
     tie.close
     (tie.spec
+    returns
     rest-zero-requires
     values-allowed-requires
     clocks-allowed-requires
+    returns-2
     root-allowed-requires
     parts-allowed-requires
-    returns)
+    returns-3)

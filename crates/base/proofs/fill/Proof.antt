@@ -19,11 +19,11 @@ abbrev μ-loop : tie.MeasureT-loop
 loop-holds : tie.Need-loop-holds Inv-loop μ-loop
 loop-holds c = (refl, simp (add-zero, sub-zero))
 
-add-put : tie.Need-add-put Inv-loop μ-loop
-add-put c = omega arith
+add-store : tie.Need-add-store Inv-loop μ-loop
+add-store c = omega arith
 
-put-requires : tie.Need-put-requires Inv-loop μ-loop
-put-requires c κs = search needs
+store-requires : tie.Need-store-requires Inv-loop μ-loop
+store-requires c κs = search needs
 
 add-j : tie.Need-add-j Inv-loop μ-loop
 add-j c = omega arith
@@ -32,7 +32,7 @@ loop-less : tie.Need-loop-less Inv-loop μ-loop
 loop-less c = omega arith
 
 loop-again : tie.Need-loop-again Inv-loop μ-loop
-loop-again c = (c .before .before .put .kept .0 ∙ c .before .before .before .before .before .loop .inv .0, search fill-step)
+loop-again c = (c .before .before .store .kept .0 ∙ c .before .before .before .before .before .loop .inv .0, search fill-step)
 
 same-length : tie.Need-same-length Inv-loop μ-loop
 same-length c = c .before .loop .inv .0
@@ -47,8 +47,8 @@ fill-spec =
     Inv-loop
     μ-loop
     loop-holds
-    add-put
-    put-requires
+    add-store
+    store-requires
     add-j
     loop-less
     loop-again

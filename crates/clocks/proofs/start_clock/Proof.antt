@@ -1,23 +1,26 @@
--- `start_clock` meets its contract: the flag and the start are those of the record before both are stored.
-use Rattle.clocks.proofs.Starting.{clock-stored}
+-- `start_clock` meets its contract: a started clock keeps its bytes, and any other is started at the time.
 use borrow.Author.Needs.{needs}
+use Rattle.clocks.proofs.Starting.{clock-kept, clock-stored}
 use Rattle.clocks.proofs.start_clock.Statement.{statement}
 use Rattle.clocks.proofs.start_clock.Tie as tie
 
-flag-after-requires : tie.Need-flag-after-requires
-flag-after-requires c κs = search needs
+is-started-requires : tie.Need-is-started-requires
+is-started-requires c κs = search needs
 
-start-after-requires : tie.Need-start-after-requires
-start-after-requires c κs = search needs
+same-length : tie.Need-same-length
+same-length c = search needs
+
+returns : tie.Need-returns
+returns c = search clock-kept
 
 wide-requires : tie.Need-wide-requires
 wide-requires c κs = search needs
 
-add-put : tie.Need-add-put
-add-put c = search needs
+add-store : tie.Need-add-store
+add-store c = search needs
 
-put-requires : tie.Need-put-requires
-put-requires c κs = search needs
+store-requires : tie.Need-store-requires
+store-requires c κs = search needs
 
 wide-requires-2 : tie.Need-wide-requires-2
 wide-requires-2 c κs = search needs
@@ -31,24 +34,25 @@ add-put-time c = search needs
 put-time-requires : tie.Need-put-time-requires
 put-time-requires c κs = search needs
 
-same-length : tie.Need-same-length
-same-length c = search needs
+same-length-2 : tie.Need-same-length-2
+same-length-2 c = search needs
 
-returns : tie.Need-returns
-returns c = search clock-stored
+returns-2 : tie.Need-returns-2
+returns-2 c = search clock-stored
 
 pub start-clock-spec : {M : Type 1} → statement M
 start-clock-spec =
     tie.close
     (tie.spec
-    flag-after-requires
-    start-after-requires
+    is-started-requires
+    same-length
+    returns
     wide-requires
-    add-put
-    put-requires
+    add-store
+    store-requires
     wide-requires-2
     mul-put-time
     add-put-time
     put-time-requires
-    same-length
-    returns)
+    same-length-2
+    returns-2)

@@ -4,8 +4,8 @@ use Rattle.offer.proofs.Offering.{record-advanced}
 use Rattle.offer.proofs.advance.Statement.{statement}
 use Rattle.offer.proofs.advance.Tie as tie
 
-put-requires : tie.Need-put-requires
-put-requires c κs = search needs
+store-requires : tie.Need-store-requires
+store-requires c κs = search needs
 
 put-time-requires : tie.Need-put-time-requires
 put-time-requires c κs = search needs
@@ -21,4 +21,4 @@ returns c = search record-advanced
 
 pub advance-spec : {M : Type 1} → statement M
 advance-spec =
-    tie.close (tie.spec put-requires put-time-requires check-marks-requires same-length returns)
+    tie.close (tie.spec store-requires put-time-requires check-marks-requires same-length returns)

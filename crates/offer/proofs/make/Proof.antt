@@ -1,6 +1,6 @@
 -- `make` meets its contract: the goals are those of the marks that the check has left, and the name is read off the goal bytes.
 use borrow.Author.Needs.{needs}
-use Rattle.offer.proofs.Offering.{offer-table, offer-long, offer-room, goals-offered, name-offered}
+use Rattle.offer.proofs.Offering.{offer-table, offer-long, offer-kept, offer-room, goals-kept, goals-offered, name-offered}
 use Rattle.offer.proofs.make.Statement.{statement}
 use Rattle.offer.proofs.make.Tie as tie
 
@@ -8,13 +8,13 @@ advance-requires : tie.Need-advance-requires
 advance-requires c κs = (search offer-table, search offer-long)
 
 write-goals-requires : tie.Need-write-goals-requires
-write-goals-requires c κs = (search offer-table, search offer-room)
+write-goals-requires c κs = (search offer-table, (search offer-kept, search offer-room))
 
 variables-requires : tie.Need-variables-requires
 variables-requires c κs = search needs
 
 lowest-contested-requires : tie.Need-lowest-contested-requires
-lowest-contested-requires c κs = search needs
+lowest-contested-requires c κs = search goals-kept
 
 same-length : tie.Need-same-length
 same-length c = search needs

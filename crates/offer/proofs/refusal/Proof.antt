@@ -1,6 +1,6 @@
 -- `refusal` meets its contract: one law of Offering for each answer.
-use Rattle.offer.proofs.Offering.{refused-early, offered-already, too-early, no-room, none-refuses}
 use borrow.Author.Needs.{needs}
+use Rattle.offer.proofs.Offering.{refused-early, goes-long, offered-already, too-early, no-room, none-refuses}
 use Rattle.offer.proofs.refusal.Statement.{statement}
 use Rattle.offer.proofs.refusal.Tie as tie
 
@@ -23,7 +23,7 @@ returns-2 : tie.Need-returns-2
 returns-2 c = search offered-already
 
 last-time-requires : tie.Need-last-time-requires
-last-time-requires c κs = search needs
+last-time-requires c κs = search goes-long
 
 returns-3 : tie.Need-returns-3
 returns-3 c = search too-early

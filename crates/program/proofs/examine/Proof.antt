@@ -1,17 +1,18 @@
 -- `examine` meets its contract: one law of Refusals for each answer.
+use Rattle.meaning.specs.declared.Form.the-variants.{File}
 use borrow.Author.Needs.{needs}
-use Rattle.program.proofs.Refusals.{too-short, sizes-refused, length-refused, parts-refused}
+use Rattle.program.proofs.Refusals.{too-short, long-enough, some-part, sizes-refused, length-refused, parts-refused}
 use Rattle.program.proofs.examine.Statement.{statement}
 use Rattle.program.proofs.examine.Tie as tie
 
 returns : tie.Need-returns
-returns c = too-short _ _ _ (c .if1 .taken)
+returns c = too-short File _ (c .if1 .taken)
 
 sizes-allowed-requires : tie.Need-sizes-allowed-requires
 sizes-allowed-requires c κs = search needs
 
 returns-2 : tie.Need-returns-2
-returns-2 c = sizes-refused _ _ _ _ (c .before .before .if1 .left) (c .before .sizes-allowed .ensures) (c .if2 .taken)
+returns-2 c = sizes-refused File _ _ (c .before .before .if1 .left) (c .before .sizes-allowed .ensures) (c .if2 .taken)
 
 parts-requires : tie.Need-parts-requires
 parts-requires c κs = search needs
@@ -20,16 +21,13 @@ length-of-requires : tie.Need-length-of-requires
 length-of-requires c κs = search needs
 
 returns-3 : tie.Need-returns-3
-returns-3 c = length-refused _ _ _ _ _ _ (c .before .before .before .before .before .if1 .left) (c .before .before .before .before .sizes-allowed .ensures) (c .before .before .before .if2 .left) (c .before .before .parts .ensures) (c .before .length-of .ensures) (c .if3 .taken)
+returns-3 c = length-refused File _ _ _ _ (c .before .before .before .before .before .if1 .left) (c .before .before .before .before .sizes-allowed .ensures) (c .before .before .before .if2 .left) (c .before .before .parts .ensures) (c .before .length-of .ensures) (c .if3 .taken)
 
 examine-parts-requires : tie.Need-examine-parts-requires
-examine-parts-requires c κs = search needs
-
-same-length : tie.Need-same-length
-same-length c = search needs
+examine-parts-requires c κs = (search long-enough, search some-part)
 
 returns-4 : tie.Need-returns-4
-returns-4 c = parts-refused _ _ _ _ _ _ (c .before .before .before .before .before .before .before .before .before .if1 .left) (c .before .before .before .before .before .before .before .before .sizes-allowed .ensures) (c .before .before .before .before .before .before .before .if2 .left) (c .before .before .before .before .before .before .parts .ensures) (c .before .before .before .before .before .length-of .ensures) _ _ (c .before .before .before .before .if3 .left) (c .before .before .examine-parts .ensures)
+returns-4 c = parts-refused File _ _ _ _ (c .before .before .before .before .before .before .if1 .left) (c .before .before .before .before .before .sizes-allowed .ensures) (c .before .before .before .before .if2 .left) (c .before .before .before .parts .ensures) (c .before .before .length-of .ensures) _ (c .before .if3 .left) (c .examine-parts .ensures)
 
 pub examine-spec : {M : Type 1} → statement M
 examine-spec =
@@ -42,5 +40,4 @@ examine-spec =
     length-of-requires
     returns-3
     examine-parts-requires
-    same-length
     returns-4)

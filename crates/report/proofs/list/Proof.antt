@@ -3,7 +3,7 @@ use borrow.Author.Needs.{needs}
 use native.Mathlib.Omega.{arith}
 use Rattle.meaning.specs.declared.Form.the-variants.{Table}
 use Rattle.meaning.specs.Sizes.{maxParts, lengthOf}
-use Rattle.report.proofs.Listed.{list-done, list-refused}
+use Rattle.report.proofs.Listed.{list-long, list-done, list-refused}
 use Rattle.report.proofs.list.Statement.{statement}
 use Rattle.report.proofs.list.Tie as tie
 
@@ -20,7 +20,9 @@ slice-aggregate-write-table : tie.Need-slice-aggregate-write-table
 slice-aggregate-write-table c = search needs
 
 write-table-requires : tie.Need-write-table-requires
-write-table-requires c κs = search needs
+write-table-requires c κs =
+    let a = c .before .before .before .before .before .compile .ensures in
+    omega (arith, list-long _ (lengthOf Table maxParts) (omega arith) _ (a .0) _ (a .1) (c .before .before .enum-told .given .1))
 
 enum-known-answer : tie.Need-enum-known-answer
 enum-known-answer c = search needs

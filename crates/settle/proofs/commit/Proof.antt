@@ -1,6 +1,8 @@
 -- `commit` meets its contract: phase and estimate stand apart from the clocks, so that it does not matter which are stored first.
-use Rattle.settle.proofs.Committing.{record-committed}
+use native.Mathlib.Omega.{arith}
 use borrow.Author.Needs.{needs}
+use Rattle.meaning.proofs.Records.{allowed-long}
+use Rattle.settle.proofs.Committing.{first-there, estimate-fit, marks-fit, record-committed}
 use Rattle.settle.proofs.commit.Statement.{statement}
 use Rattle.settle.proofs.commit.Tie as tie
 
@@ -10,8 +12,8 @@ start-clocks-requires c κs = search needs
 phase-after-requires : tie.Need-phase-after-requires
 phase-after-requires c κs = search needs
 
-put-requires : tie.Need-put-requires
-put-requires c κs = search needs
+store-requires : tie.Need-store-requires
+store-requires c κs = search first-there
 
 variables-requires : tie.Need-variables-requires
 variables-requires c κs = search needs
@@ -19,8 +21,12 @@ variables-requires c κs = search needs
 wide-requires : tie.Need-wide-requires
 wide-requires c κs = search needs
 
-copy-requires : tie.Need-copy-requires
-copy-requires c κs = search needs
+copy-inside-requires : tie.Need-copy-inside-requires
+copy-inside-requires c κs =
+    let phase = c .before .before .before .before .before in
+    let clocks = phase .before .before .before .before .before in
+    let given = clocks .before .before .before .before .before .before .pre in
+    estimate-fit _ _ _ _ _ (given .0) (given .1 .1 .1 .0) (c .before .variables .ensures) (c .wide .ensures) (omega (arith, allowed-long _ _ (given .1 .0), clocks .start-clocks .kept, phase .store .kept))
 
 parts-requires : tie.Need-parts-requires
 parts-requires c κs = search needs
@@ -28,8 +34,13 @@ parts-requires c κs = search needs
 wide-requires-2 : tie.Need-wide-requires-2
 wide-requires-2 c κs = search needs
 
-copy-requires-2 : tie.Need-copy-requires-2
-copy-requires-2 c κs = search needs
+copy-inside-requires-2 : tie.Need-copy-inside-requires-2
+copy-inside-requires-2 c κs =
+    let estimate = c .before .before .before .before .before in
+    let phase = estimate .before .before .before .before .before .before in
+    let clocks = phase .before .before .before .before .before in
+    let given = clocks .before .before .before .before .before .before .pre in
+    marks-fit _ _ _ _ _ (given .0) (given .1 .1 .0) (c .before .parts .ensures) (c .wide2 .ensures) (omega (arith, allowed-long _ _ (given .1 .0), clocks .start-clocks .kept, phase .store .kept, estimate .copy-inside .kept))
 
 same-length : tie.Need-same-length
 same-length c = search needs
@@ -41,7 +52,7 @@ returns c =
     let phase = estimate .before .before .before .before .before .before in
     let clocks = phase .before .before .before .before .before in
     let given = clocks .before .before .before .before .before .before .pre in
-    record-committed _ _ _ _ (given .0) (given .1 .0) (given .1 .1) _ _ _ _ _ _ _ _ _ (clocks .start-clocks .ensures) (phase .before .phase-after .ensures) (phase .put .ensures) (estimate .before .before .variables .ensures) (estimate .before .wide .ensures) (estimate .copy .ensures) (marks .before .before .parts .ensures) (marks .before .wide2 .ensures) (marks .copy2 .ensures)
+    record-committed _ _ _ _ (given .0) (given .1 .1 .1 .0) (given .1 .1 .1 .1) _ _ _ _ _ _ _ _ _ (clocks .start-clocks .ensures) (phase .before .phase-after .ensures) (phase .store .ensures) (estimate .before .before .variables .ensures) (estimate .before .wide .ensures) (estimate .copy-inside .ensures) (marks .before .before .parts .ensures) (marks .before .wide2 .ensures) (marks .copy-inside2 .ensures)
 
 pub commit-spec : {M : Type 1} → statement M
 commit-spec =
@@ -49,12 +60,12 @@ commit-spec =
     (tie.spec
     start-clocks-requires
     phase-after-requires
-    put-requires
+    store-requires
     variables-requires
     wide-requires
-    copy-requires
+    copy-inside-requires
     parts-requires
     wide-requires-2
-    copy-requires-2
+    copy-inside-requires-2
     same-length
     returns)

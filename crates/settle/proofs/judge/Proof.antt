@@ -1,6 +1,6 @@
 -- `judge` meets its contract: one law of Answering for each answer.
-use Rattle.settle.proofs.Answering.{judged-early, is-table, judged-done, judged-stuck}
 use borrow.Author.Needs.{needs}
+use Rattle.settle.proofs.Answering.{is-long, is-estimate, is-room, room-still, judged-early, is-table, judged-done, judged-stuck}
 use Rattle.settle.proofs.judge.Statement.{statement}
 use Rattle.settle.proofs.judge.Tie as tie
 
@@ -17,13 +17,13 @@ returns : tie.Need-returns
 returns c = search judged-early
 
 settle-marks-requires : tie.Need-settle-marks-requires
-settle-marks-requires c κs = search is-table
+settle-marks-requires c κs = (search is-table, (search is-long, (search is-estimate, search is-room)))
 
 at-requires : tie.Need-at-requires
 at-requires c κs = search needs
 
 works-requires : tie.Need-works-requires
-works-requires c κs = search is-table
+works-requires c κs = (search is-table, search room-still)
 
 same-length : tie.Need-same-length
 same-length c = search needs

@@ -1,6 +1,8 @@
 -- `settle` meets its contract: one law of Answering for each answer.
-use Rattle.settle.proofs.Answering.{settled-refused, to-commit, settled-finished, settled-running}
+use native.Mathlib.Omega.{arith}
 use borrow.Author.Needs.{needs}
+use Rattle.part.proofs.Places.{parts-fit}
+use Rattle.settle.proofs.Answering.{settled-refused, to-commit, settled-finished, settled-running}
 use Rattle.settle.proofs.settle.Statement.{statement}
 use Rattle.settle.proofs.settle.Tie as tie
 
@@ -26,7 +28,9 @@ slice-aggregate-commit : tie.Need-slice-aggregate-commit
 slice-aggregate-commit c = search needs
 
 commit-requires : tie.Need-commit-requires
-commit-requires c κs = to-commit _ _ _ _ _ (c .before .before .before .before .before .judge .ensures) (c .before .before .enum-told .given .1)
+commit-requires c κs =
+    let x = to-commit _ _ _ _ _ (c .before .before .before .before .before .judge .ensures) (c .before .before .enum-told .given .1) in
+    (x .0, (x .1 .0, (omega (arith, parts-fit _ (x .0)), x .1 .1)))
 
 slice-aggregate-at : tie.Need-slice-aggregate-at
 slice-aggregate-at c = search needs

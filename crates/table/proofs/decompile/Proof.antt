@@ -1,5 +1,5 @@
 -- `decompile` meets its contract: one law of Operations for each answer.
-use Rattle.table.proofs.Operations.{write-refused, write-short, write-done}
+use Rattle.table.proofs.Operations.{write-refused, write-short, write-fits, write-done}
 use borrow.Author.Needs.{needs}
 use Rattle.table.proofs.decompile.Statement.{statement}
 use Rattle.table.proofs.decompile.Tie as tie
@@ -20,7 +20,7 @@ returns-2 : tie.Need-returns-2
 returns-2 c = write-short _ _ _ (c .before .before .before .before .is-table .ensures) _ _ (c .before .before .before .if1 .left) (c .before .before .parts .ensures) (c .before .length-of .ensures) (c .if2 .taken)
 
 write-file-requires : tie.Need-write-file-requires
-write-file-requires c κs = search needs
+write-file-requires c κs = write-fits _ _ _ _ _ (c .before .before .before .before .before .is-table .ensures) (c .before .before .before .before .if1 .left) (c .before .before .before .parts .ensures) (c .before .before .length-of .ensures) (c .before .if2 .left)
 
 same-length : tie.Need-same-length
 same-length c = search needs

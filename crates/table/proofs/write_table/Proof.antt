@@ -1,5 +1,5 @@
--- `write_table` meets its contract: the rows, from the entries and the links, follow the sizes.
-use Rattle.table.proofs.Operations.{table-written}
+-- `write_table` meets its contract: the rows follow the sizes.
+use Rattle.table.proofs.Operations.{file-tree, table-written}
 use borrow.Author.Needs.{needs}
 use Rattle.table.proofs.write_table.Statement.{statement}
 use Rattle.table.proofs.write_table.Tie as tie
@@ -8,7 +8,7 @@ copy-requires : tie.Need-copy-requires
 copy-requires c κs = search needs
 
 write-rows-requires : tie.Need-write-rows-requires
-write-rows-requires c κs = search needs
+write-rows-requires c κs = (search file-tree, search needs)
 
 same-length : tie.Need-same-length
 same-length c = search needs

@@ -42,7 +42,7 @@ fn main() {
     }
     let arguments: Vec<String> = env::args().skip(1).collect();
     match &arguments[..] {
-        [] => report::print(&measure()),
+        [] => report::print(&measure(), refused_stack()),
         [only] if only == COUNT_CALLS => each_call(|_, trial, operation, executive| {
             instructions::count(trial, executive, operation);
         }),
@@ -69,6 +69,15 @@ fn measure() -> Vec<Cost> {
         });
     });
     costs
+}
+
+/// The deepest stack of the library's calls on a program that goes too deep: a refused call must not
+/// take more than an accepted one.
+fn refused_stack() -> usize {
+    let (program, file) = programs::too_deep();
+    let mut trial = Trial::without_run(&file, &program);
+    let stacks = Operation::ALL.map(|call| stack::refused_depth(&mut trial, &LIBRARY, call));
+    stacks.into_iter().max().expect("some calls")
 }
 
 /// Goes over all calls, always in the same order.

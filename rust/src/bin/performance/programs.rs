@@ -3,7 +3,7 @@
 use gurvoke::builder::{
     at_least, below, choice, differs, file, goal, maintain, par, repeat, seq, start, wait,
 };
-use gurvoke::model::{Part, Sizes, MAX_CLOCKS, MAX_VARIABLES};
+use gurvoke::model::{Part, Program, Sizes, MAX_CLOCKS, MAX_DEPTH, MAX_VARIABLES};
 
 /// The numbers of parts.
 pub const SIZES: [usize; 4] = [25, 50, 100, 200];
@@ -41,6 +41,14 @@ impl Shape {
         assert_eq!(sizes.parts, parts, "{}", self.name);
         file
     }
+}
+
+/// A program with a GOAL one level deeper than is allowed, and its file.
+pub fn too_deep() -> (Program, Vec<u8>) {
+    let root = (0..MAX_DEPTH).fold(spread_goal(0), |child, _| repeat(child));
+    let file = file(MAX_VARIABLES, MAX_CLOCKS, &root);
+    let sizes = Sizes::read(&file).expect("a file has its sizes");
+    (Program { sizes, root }, file)
 }
 
 fn wide(parts: usize) -> Part {

@@ -10,13 +10,17 @@ use crate::Cost;
 const HALF: usize = 100;
 const WHOLE: usize = 200;
 
+/// The largest ratios that are aimed at, with any number of parts and with the most.
+const RATIO: f64 = 1.0;
+const WHOLE_RATIO: f64 = 0.9;
+
 /// Functions with less than this part of a call's instructions are left out.
 const LEAST_SHARE: f64 = 0.005;
 
 /// The executives that the library is compared with.
 static PLAIN: [&Executive; 2] = [&REFERENCE, &BOARD];
 
-pub fn print(costs: &[Cost]) {
+pub fn print(costs: &[Cost], refused_stack: usize) {
     let costs = Costs(costs);
     print_calling(&costs);
     for shape in &SHAPES {
@@ -30,7 +34,7 @@ pub fn print(costs: &[Cost]) {
         println!("\nInstructions by function, library, {WHOLE} parts:\n");
         print_functions(&costs, shape.name);
     }
-    print_worst(&costs);
+    print_worst(&costs, refused_stack);
 }
 
 /// All costs, to be asked for one by one.
@@ -159,7 +163,7 @@ fn instructions_in(call: &Cost, name: &str) -> u64 {
 }
 
 /// The library's largest figures over all calls and shapes.
-fn print_worst(costs: &Costs) {
+fn print_worst(costs: &Costs, refused_stack: usize) {
     let calls = || {
         let with_shape = |operation| SHAPES.iter().map(move |shape| (shape.name, operation));
         Operation::ALL.into_iter().flat_map(with_shape)
@@ -172,19 +176,32 @@ fn print_worst(costs: &Costs) {
         largest(growth)
     );
     for Executive { name, .. } in PLAIN {
-        let ratio = |parts| {
-            largest(calls().map(|(shape, operation)| costs.ratio(shape, parts, operation, name)))
+        let ratios = |parts| {
+            calls().map(move |(shape, operation)| costs.ratio(shape, parts, operation, name))
         };
+        let all = || SIZES.into_iter().flat_map(ratios);
+        println!("- ratio to {name}: {}", against(all, RATIO));
+        let whole = || ratios(WHOLE);
         println!(
-            "- ratio to {name}: {:.2} at {WHOLE} parts, {:.2} over all sizes",
-            ratio(WHOLE),
-            largest(SIZES.into_iter().map(ratio))
+            "- ratio to {name} at {WHOLE} parts: {}",
+            against(whole, WHOLE_RATIO)
         );
     }
     println!(
-        "- stack: {} bytes",
-        grouped(stack.max().expect("some calls") as u64)
+        "- stack: {} bytes, {} where the program goes too deep",
+        grouped(stack.max().expect("some calls") as u64),
+        grouped(refused_stack as u64)
     );
+}
+
+/// The largest of some figures, and how many of them miss a target.
+fn against<I: Iterator<Item = f64>>(figures: impl Fn() -> I, target: f64) -> String {
+    let over = figures().filter(|&figure| figure > target).count();
+    let worst = largest(figures());
+    format!(
+        "{worst:.2}, above {target:.1} in {over} of {} calls",
+        figures().count()
+    )
 }
 
 fn largest(numbers: impl Iterator<Item = f64>) -> f64 {

@@ -18,13 +18,22 @@ const ALIGNMENT: usize = 16;
 /// A call may write one of them at its deepest place, but not both.
 const COLOURS: [u8; 2] = [0xA5, 0x5A];
 
-/// How many bytes of stack a call takes. It must be accepted.
+/// How many bytes of stack a call takes that must be accepted.
 pub fn depth(trial: &mut Trial, executive: &Executive, operation: Operation) -> usize {
+    depth_of(trial, executive, operation, true)
+}
+
+/// The same of a call that must be refused.
+pub fn refused_depth(trial: &mut Trial, executive: &Executive, operation: Operation) -> usize {
+    depth_of(trial, executive, operation, false)
+}
+
+fn depth_of(trial: &mut Trial, called: &Executive, operation: Operation, passes: bool) -> usize {
     let depths = COLOURS.map(|colour| {
         trial.prepare(operation);
         let mut accepted = false;
-        let depth = painted_depth(colour, &mut || accepted = trial.call(executive, operation));
-        assert!(accepted, "{} {}", executive.name, operation.name());
+        let depth = painted_depth(colour, &mut || accepted = trial.call(called, operation));
+        assert_eq!(accepted, passes, "{} {}", called.name, operation.name());
         depth
     });
     depths[0].max(depths[1])

@@ -3,7 +3,7 @@
 use std::hint::black_box;
 
 use gurvoke::executive::{Executive, REFERENCE};
-use gurvoke::model::{Sizes, MAX_VALUE};
+use gurvoke::model::{read, Program, Sizes, MAX_VALUE};
 use gurvoke::record::{ACCEPTED, ESTIMATE, MARKS, RECORD_LEN, RUNNING, STARTED};
 
 use crate::programs::UNMOVED;
@@ -68,24 +68,30 @@ pub struct Trial {
 
 impl Trial {
     pub fn new(file: &[u8]) -> Trial {
-        let sizes = Sizes::read(file).expect("a file has its sizes");
-        let mut trial = Trial {
-            sizes,
-            file: file.to_vec(),
-            table: vec![0; sizes.table_len()],
-            waiting: vec![0; RECORD_LEN],
-            offered: Vec::new(),
-            time: CYCLES + 1,
-            estimate: vec![0; sizes.variables],
-            record: vec![0; RECORD_LEN],
-            output: vec![0; sizes.table_len()],
-        };
-        (REFERENCE.compile)(file, &mut trial.table).expect("a valid program");
+        let program = read(file).expect("a valid program");
+        let mut trial = Trial::without_run(file, &program);
         trial.find_fullest();
         trial.offered = trial.waiting.clone();
         let goals = offer(&trial.table, &mut trial.offered, trial.time);
         trial.estimate = reached(&trial.offered, &goals);
         trial
+    }
+
+    /// Inputs with records that no run has come to: enough where every call is refused before it looks
+    /// at one.
+    pub fn without_run(file: &[u8], program: &Program) -> Trial {
+        let sizes = program.sizes;
+        Trial {
+            sizes,
+            file: file.to_vec(),
+            table: program.table(),
+            waiting: vec![0; RECORD_LEN],
+            offered: vec![0; RECORD_LEN],
+            time: CYCLES + 1,
+            estimate: vec![0; sizes.variables],
+            record: vec![0; RECORD_LEN],
+            output: vec![0; sizes.table_len()],
+        }
     }
 
     pub fn parts(&self) -> usize {

@@ -9,10 +9,10 @@ use Rattle.allowed.proofs.marks.any_marked.Statement.{statement}
 use Rattle.allowed.proofs.marks.any_marked.Tie as tie
 
 abbrev Inv-loop : tie.InvT-loop
-Inv-loop r from stop q₀ q = any isMark (bytesAt r (marksPlace + q) (stop - q)) ≡ any isMark (bytesAt r (marksPlace + from) (stop - from))
+Inv-loop r from to q₀ q = any isMark (bytesAt r (marksPlace + q) (to - q)) ≡ any isMark (bytesAt r (marksPlace + from) (to - from))
 
 abbrev μ-loop : tie.MeasureT-loop
-μ-loop r from stop q₀ q = stop - q
+μ-loop r from to q₀ q = to - q
 
 loop-holds : tie.Need-loop-holds Inv-loop μ-loop
 loop-holds c = refl

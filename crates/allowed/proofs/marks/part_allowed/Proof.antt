@@ -1,15 +1,17 @@
 -- `part_allowed` meets its contract: a marked part is judged by its marked children, any other by whether something inside it is marked.
 use native.Mathlib.Omega.{arith}
 use borrow.Author.Needs.{needs}
-use Rattle.allowed.proofs.Markings.{marked-allowed, unmarked-allowed}
+use Rattle.record.proofs.Marks.{mark-inside}
+use Rattle.part.proofs.Places.{row-held}
+use Rattle.allowed.proofs.Markings.{inner-long, marked-allowed, unmarked-allowed}
 use Rattle.allowed.proofs.marks.part_allowed.Statement.{statement}
 use Rattle.allowed.proofs.marks.part_allowed.Tie as tie
 
 is-marked-requires : tie.Need-is-marked-requires
-is-marked-requires c κs = search needs
+is-marked-requires c κs = search mark-inside
 
 entry-at-requires : tie.Need-entry-at-requires
-entry-at-requires c κs = search needs
+entry-at-requires c κs = search row-held
 
 marked-children-requires : tie.Need-marked-children-requires
 marked-children-requires c κs = search needs
@@ -20,11 +22,11 @@ children-allowed-requires c κs = search needs
 add-any-marked : tie.Need-add-any-marked
 add-any-marked c = omega (arith, c .before .before .before .shared-slice-known .given 0)
 
-stop-of-requires : tie.Need-stop-of-requires
-stop-of-requires c κs = search needs
+end-at-requires : tie.Need-end-at-requires
+end-at-requires c κs = search row-held
 
 any-marked-requires : tie.Need-any-marked-requires
-any-marked-requires c κs = search needs
+any-marked-requires c κs = search inner-long
 
 returns : tie.Need-returns
 returns c = search marked-allowed
@@ -41,7 +43,7 @@ part-allowed-spec =
     marked-children-requires
     children-allowed-requires
     add-any-marked
-    stop-of-requires
+    end-at-requires
     any-marked-requires
     returns
     returns-2)

@@ -1,18 +1,18 @@
 -- `parts_allowed` meets its contract: at each turn the parts that are left are allowed exactly where all parts are.
-use Prim.Native.Nat.{_-_}
+use Prim.Native.Nat.{_-_, _<_}
 use mathlib.Core.Path.{_≡_}
 use lib.ListN.{drop}
 use borrow.Author.Needs.{needs}
 use Rattle.meaning.specs.Record.{phaseOf, marksIn, partsAllowed}
-use Rattle.allowed.proofs.Markings.{parts-pass, parts-fail, parts-end}
+use Rattle.allowed.proofs.Markings.{parts-pass, parts-fail, parts-later, parts-end}
 use Rattle.allowed.proofs.marks.parts_allowed.Statement.{statement}
 use Rattle.allowed.proofs.marks.parts_allowed.Tie as tie
 
 abbrev Inv-loop : tie.InvT-loop
-Inv-loop t r current p₀ p-end p = partsAllowed t current p (drop p (marksIn t r)) ≡ partsAllowed t (phaseOf r) 0 (marksIn t r)
+Inv-loop t r current n p₀ p = partsAllowed t current p (drop p (marksIn t r)) ≡ partsAllowed t (phaseOf r) 0 (marksIn t r)
 
 abbrev μ-loop : tie.MeasureT-loop
-μ-loop t r current p₀ p-end p = p-end - p
+μ-loop t r current n p₀ p = n - p
 
 phase-requires : tie.Need-phase-requires Inv-loop μ-loop
 phase-requires c κs = search needs
@@ -29,11 +29,11 @@ part-allowed-requires c κs = search needs
 returns : tie.Need-returns Inv-loop μ-loop
 returns c = search parts-fail
 
-add-p : tie.Need-add-p Inv-loop μ-loop
-add-p c = search needs
+part-after-requires : tie.Need-part-after-requires Inv-loop μ-loop
+part-after-requires c κs = search needs
 
 loop-less : tie.Need-loop-less Inv-loop μ-loop
-loop-less c = search needs
+loop-less c = let h : c .before .before .before .before .loop .p < c .part-after .result = search parts-later in search needs
 
 loop-again : tie.Need-loop-again Inv-loop μ-loop
 loop-again c = search parts-pass
@@ -52,7 +52,7 @@ parts-allowed-spec =
     loop-holds
     part-allowed-requires
     returns
-    add-p
+    part-after-requires
     loop-less
     loop-again
     returns-2)

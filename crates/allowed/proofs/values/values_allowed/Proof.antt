@@ -1,6 +1,6 @@
 -- `values_allowed` meets its contract: it is the definition, at the sizes and the phase that were read.
 use borrow.Author.Needs.{needs}
-use Rattle.allowed.proofs.Places.{values-made}
+use Rattle.allowed.proofs.Places.{marks-long, values-made}
 use Rattle.allowed.proofs.values.values_allowed.Statement.{statement}
 use Rattle.allowed.proofs.values.values_allowed.Tie as tie
 
@@ -35,7 +35,7 @@ add-all-at-most-2 : tie.Need-add-all-at-most-2
 add-all-at-most-2 c = search needs
 
 all-at-most-requires-2 : tie.Need-all-at-most-requires-2
-all-at-most-requires-2 c κs = search needs
+all-at-most-requires-2 c κs = search marks-long
 
 add-all-at-most-3 : tie.Need-add-all-at-most-3
 add-all-at-most-3 c = search needs

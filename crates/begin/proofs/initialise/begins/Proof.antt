@@ -1,14 +1,15 @@
--- `begins` meets its contract: the kind of the part around p decides.
+-- `begins` meets its contract: the kind of p's parent decides.
 use borrow.Author.Needs.{needs}
-use Rattle.begin.proofs.Turns.{begins-made}
+use Rattle.part.proofs.Places.{row-held}
+use Rattle.begin.proofs.Turns.{parent-held, begins-made}
 use Rattle.begin.proofs.initialise.begins.Statement.{statement}
 use Rattle.begin.proofs.initialise.begins.Tie as tie
 
 parent-at-requires : tie.Need-parent-at-requires
-parent-at-requires c κs = search needs
+parent-at-requires c κs = search row-held
 
 entry-at-requires : tie.Need-entry-at-requires
-entry-at-requires c κs = search needs
+entry-at-requires c κs = search parent-held
 
 begins-in-requires : tie.Need-begins-in-requires
 begins-in-requires c κs = search needs

@@ -1,6 +1,7 @@
 -- `turn` meets its contract: one law for each way that a part's turn goes.
-use Rattle.begin.proofs.Turns.{turn-passed, turn-begins, turn-idle}
 use borrow.Author.Needs.{needs}
+use Rattle.part.proofs.Places.{row-held}
+use Rattle.begin.proofs.Turns.{turn-passed, turn-begins, turn-idle}
 use Rattle.begin.proofs.initialise.turn.Statement.{statement}
 use Rattle.begin.proofs.initialise.turn.Tie as tie
 
@@ -10,8 +11,8 @@ wide-requires c κs = search needs
 add-i : tie.Need-add-i
 add-i c = search needs
 
-put-requires : tie.Need-put-requires
-put-requires c κs = search needs
+store-requires : tie.Need-store-requires
+store-requires c κs = search needs
 
 sub-result : tie.Need-sub-result
 sub-result c = search needs
@@ -25,8 +26,8 @@ returns c = search turn-passed
 begins-requires : tie.Need-begins-requires
 begins-requires c κs = search needs
 
-put-requires-2 : tie.Need-put-requires-2
-put-requires-2 c κs = search needs
+store-requires-2 : tie.Need-store-requires-2
+store-requires-2 c κs = search needs
 
 same-length-2 : tie.Need-same-length-2
 same-length-2 c = search needs
@@ -34,11 +35,11 @@ same-length-2 c = search needs
 returns-2 : tie.Need-returns-2
 returns-2 c = search turn-begins
 
-put-requires-3 : tie.Need-put-requires-3
-put-requires-3 c κs = search needs
+store-requires-3 : tie.Need-store-requires-3
+store-requires-3 c κs = search needs
 
 inside-of-requires : tie.Need-inside-of-requires
-inside-of-requires c κs = search needs
+inside-of-requires c κs = search row-held
 
 same-length-3 : tie.Need-same-length-3
 same-length-3 c = search needs
@@ -52,15 +53,15 @@ turn-spec =
     (tie.spec
     wide-requires
     add-i
-    put-requires
+    store-requires
     sub-result
     same-length
     returns
     begins-requires
-    put-requires-2
+    store-requires-2
     same-length-2
     returns-2
-    put-requires-3
+    store-requires-3
     inside-of-requires
     same-length-3
     returns-3)

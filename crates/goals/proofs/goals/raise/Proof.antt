@@ -1,4 +1,4 @@
--- `raise` meets its contract: the byte of the GOAL's variable is joined with its value, which fits a byte.
+-- `raise` meets its contract: the byte that the operand names takes the operand's value.
 use borrow.Author.Needs.{needs}
 use Rattle.goals.proofs.Raising.{raise-made}
 use Rattle.goals.proofs.goals.raise.Statement.{statement}
@@ -13,14 +13,14 @@ value-requires c κs = search needs
 cast-x : tie.Need-cast-x
 cast-x c = search needs
 
-at-requires : tie.Need-at-requires
-at-requires c κs = search needs
+slice-read-b : tie.Need-slice-read-b
+slice-read-b c = search needs
 
 joined-requires : tie.Need-joined-requires
 joined-requires c κs = search needs
 
-put-requires : tie.Need-put-requires
-put-requires c κs = search needs
+slice-write-g : tie.Need-slice-write-g
+slice-write-g c = search needs
 
 same-length : tie.Need-same-length
 same-length c = search needs
@@ -35,8 +35,8 @@ raise-spec =
     wide-requires
     value-requires
     cast-x
-    at-requires
+    slice-read-b
     joined-requires
-    put-requires
+    slice-write-g
     same-length
     returns)

@@ -1,4 +1,5 @@
 -- `raise_all` meets its contract: at each turn, the values of the leaves that are left, raised onto the bytes as they are now, give the whole.
+use native.Mathlib.Omega.{arith}
 use borrow.Author.Needs.{needs}
 use Prim.Native.Nat.{_+_, _-_}
 use mathlib.Core.Path.{_≡_, refl, _∙_}
@@ -24,7 +25,7 @@ loop-holds : tie.Need-loop-holds Inv-loop μ-loop
 loop-holds c = (refl, search raise-starts)
 
 raise-part-requires : tie.Need-raise-part-requires Inv-loop μ-loop
-raise-part-requires c κs = search needs
+raise-part-requires c κs = (search needs, (search needs, (omega (arith, c .before .before .loop .inv .0), search needs)))
 
 add-p : tie.Need-add-p Inv-loop μ-loop
 add-p c = search needs

@@ -1,20 +1,22 @@
 -- `raise_part` meets its contract: a marked GOAL raises its value, and any other part is passed.
 use borrow.Author.Needs.{needs}
-use Rattle.goals.proofs.Raising.{part-raised, part-passed, raise-fits}
+use Rattle.part.proofs.Places.{row-held}
+use Rattle.record.proofs.Marks.{mark-inside}
+use Rattle.goals.proofs.Raising.{part-raised, part-passed, raise-fits, raise-inside}
 use Rattle.goals.proofs.goals.raise_part.Statement.{statement}
 use Rattle.goals.proofs.goals.raise_part.Tie as tie
 
 entry-at-requires : tie.Need-entry-at-requires
-entry-at-requires c κs = search needs
+entry-at-requires c κs = search row-held
 
 is-marked-requires : tie.Need-is-marked-requires
-is-marked-requires c κs = search needs
+is-marked-requires c κs = search mark-inside
 
 is-goal-requires : tie.Need-is-goal-requires
 is-goal-requires c κs = search needs
 
 raise-requires : tie.Need-raise-requires
-raise-requires c κs = search raise-fits
+raise-requires c κs = (search raise-fits, search raise-inside)
 
 same-length : tie.Need-same-length
 same-length c = search needs

@@ -20,8 +20,8 @@ loop-holds c = search name-starts
 wide-requires : tie.Need-wide-requires Inv-loop μ-loop
 wide-requires c κs = search needs
 
-at-requires : tie.Need-at-requires Inv-loop μ-loop
-at-requires c κs = search needs
+shared-slice-read-if1 : tie.Need-shared-slice-read-if1 Inv-loop μ-loop
+shared-slice-read-if1 c = search needs
 
 returns : tie.Need-returns Inv-loop μ-loop
 returns c = search name-found
@@ -46,7 +46,7 @@ lowest-contested-spec =
     μ-loop
     loop-holds
     wide-requires
-    at-requires
+    shared-slice-read-if1
     returns
     add-v
     loop-less

@@ -1,14 +1,16 @@
 -- `fate` meets its contract: each kind has its arm, and a byte that is no kind stays.
+use mathlib.Core.Logic.{inl, inr}
 use borrow.Author.Needs.{needs}
 use Rattle.meaning.specs.Kinds.{kindOf}
 use Rattle.meaning.specs.Cycle.{fate}
+use Rattle.meaning.proofs.Entries.{condition-fits}
 use Rattle.part.proofs.KindBytes.{no-kind}
-use Rattle.marks.proofs.Judged.{goal-judged, wait-judged}
+use Rattle.marks.proofs.Judged.{goal-inside, goal-judged, wait-judged}
 use Rattle.marks.proofs.fates.fate.Statement.{statement}
 use Rattle.marks.proofs.fates.fate.Tie as tie
 
 reached-requires : tie.Need-reached-requires
-reached-requires c κs = search needs
+reached-requires c κs = search goal-inside
 
 ends-if-requires : tie.Need-ends-if-requires
 ends-if-requires c κs = search needs
@@ -17,7 +19,7 @@ last-time-requires : tie.Need-last-time-requires
 last-time-requires c κs = search needs
 
 satisfied-requires : tie.Need-satisfied-requires
-satisfied-requires c κs = search needs
+satisfied-requires c κs = (search needs, (search needs, (search needs, search (condition-fits, inl))))
 
 ends-if-requires-2 : tie.Need-ends-if-requires-2
 ends-if-requires-2 c κs = search needs
@@ -32,7 +34,7 @@ ends-if-requires-5 : tie.Need-ends-if-requires-5
 ends-if-requires-5 c κs = search needs
 
 of-choice-requires : tie.Need-of-choice-requires
-of-choice-requires c κs = search needs
+of-choice-requires c κs = (search needs, (search needs, (search needs, search (condition-fits, inr))))
 
 ends-if-requires-6 : tie.Need-ends-if-requires-6
 ends-if-requires-6 c κs = search needs

@@ -1,6 +1,7 @@
 -- `follower` meets its contract: each fate has its arm.
 use borrow.Author.Needs.{needs}
-use Rattle.marks.proofs.Settling.{first-follows, second-follows}
+use Rattle.part.proofs.Places.{row-held}
+use Rattle.marks.proofs.Settling.{next-fits, second-held, first-follows, second-follows}
 use Rattle.marks.proofs.settled.follower.Statement.{statement}
 use Rattle.marks.proofs.settled.follower.Tie as tie
 
@@ -11,22 +12,22 @@ enum-told-2 : tie.Need-enum-told-2
 enum-told-2 c = search needs
 
 next-at-requires : tie.Need-next-at-requires
-next-at-requires c κs = search needs
+next-at-requires c κs = search row-held
 
 enum-told-3 : tie.Need-enum-told-3
 enum-told-3 c = search needs
 
 add-result : tie.Need-add-result
-add-result c = search needs
+add-result c = search (next-fits, needs)
 
 enum-told-4 : tie.Need-enum-told-4
 enum-told-4 c = search needs
 
 add-end-at : tie.Need-add-end-at
-add-end-at c = search needs
+add-end-at c = search (next-fits, needs)
 
 end-at-requires : tie.Need-end-at-requires
-end-at-requires c κs = search needs
+end-at-requires c κs = search second-held
 
 returns : tie.Need-returns
 returns c = search needs

@@ -1,17 +1,17 @@
 -- `mark` meets its contract: the two stores are the definition's, and without a part to initialise the first alone.
 use borrow.Author.Needs.{needs}
-use Rattle.marks.proofs.Settling.{marked-alone, marked-with}
+use Rattle.marks.proofs.Settling.{is-there, marked-alone, marked-with}
 use Rattle.marks.proofs.settled.mark.Statement.{statement}
 use Rattle.marks.proofs.settled.mark.Tie as tie
 
 wide-requires : tie.Need-wide-requires
 wide-requires c κs = search needs
 
-put-requires : tie.Need-put-requires
-put-requires c κs = search needs
+store-requires : tie.Need-store-requires
+store-requires c κs = search needs
 
 initialise-requires : tie.Need-initialise-requires
-initialise-requires c κs = search needs
+initialise-requires c κs = (search needs, (search is-there, search needs))
 
 same-length : tie.Need-same-length
 same-length c = search needs
@@ -30,7 +30,7 @@ mark-spec =
     tie.close
     (tie.spec
     wide-requires
-    put-requires
+    store-requires
     initialise-requires
     same-length
     returns

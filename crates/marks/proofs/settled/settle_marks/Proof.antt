@@ -2,7 +2,7 @@
 use Prim.Native.Nat.{_≤_}
 use borrow.Author.Needs.{needs}
 use Rattle.meaning.specs.Program.{parts}
-use Rattle.marks.proofs.Settling.{Standing, settle-starts, settle-step, settle-ends, standing-length}
+use Rattle.marks.proofs.Settling.{standing-room, Standing, settle-starts, settle-step, settle-ends, standing-length}
 use Rattle.marks.proofs.settled.settle_marks.Statement.{statement}
 use Rattle.marks.proofs.settled.settle_marks.Tie as tie
 
@@ -22,7 +22,7 @@ sub-p : tie.Need-sub-p Inv-loop μ-loop
 sub-p c = search needs
 
 turn-requires : tie.Need-turn-requires Inv-loop μ-loop
-turn-requires c κs = search needs
+turn-requires c κs = (search needs, (search needs, (search needs, (search standing-room, search needs))))
 
 loop-less : tie.Need-loop-less Inv-loop μ-loop
 loop-less c = search needs

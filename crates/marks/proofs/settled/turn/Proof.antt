@@ -1,17 +1,18 @@
 -- `turn` meets its contract: an unmarked part stays so, and a marked one is marked by its fate.
 use borrow.Author.Needs.{needs}
-use Rattle.marks.proofs.Settling.{unmarked-lowest, unmarked-marks, marked-lowest, marked-marks}
+use Rattle.record.proofs.Marks.{mark-inside}
+use Rattle.marks.proofs.Settling.{fated, fated-there, unmarked-lowest, unmarked-marks, marked-lowest, marked-marks}
 use Rattle.marks.proofs.settled.turn.Statement.{statement}
 use Rattle.marks.proofs.settled.turn.Tie as tie
 
 is-marked-requires : tie.Need-is-marked-requires
-is-marked-requires c κs = search needs
+is-marked-requires c κs = search mark-inside
 
 wide-requires : tie.Need-wide-requires
 wide-requires c κs = search needs
 
-put-requires : tie.Need-put-requires
-put-requires c κs = search needs
+store-requires : tie.Need-store-requires
+store-requires c κs = search needs
 
 same-length : tie.Need-same-length
 same-length c = search needs
@@ -26,10 +27,10 @@ mark-after-requires : tie.Need-mark-after-requires
 mark-after-requires c κs = search needs
 
 follower-requires : tie.Need-follower-requires
-follower-requires c κs = search needs
+follower-requires c κs = search fated
 
 mark-requires : tie.Need-mark-requires
-mark-requires c κs = search needs
+mark-requires c κs = (search needs, (search needs, (search fated-there, search needs)))
 
 lowest-with-requires : tie.Need-lowest-with-requires
 lowest-with-requires c κs = search needs
@@ -46,7 +47,7 @@ turn-spec =
     (tie.spec
     is-marked-requires
     wide-requires
-    put-requires
+    store-requires
     same-length
     returns
     turn-fate-requires

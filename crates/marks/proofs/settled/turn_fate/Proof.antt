@@ -1,17 +1,20 @@
 -- `turn_fate` meets its contract: the lowest marked parts tell what is marked inside.
 use borrow.Author.Needs.{needs}
+use Rattle.meaning.proofs.Entries.{read-allowed}
+use Rattle.part.proofs.Places.{row-held}
+use Rattle.record.proofs.Marks.{clocks-fit}
 use Rattle.marks.proofs.Settling.{fate-found}
 use Rattle.marks.proofs.settled.turn_fate.Statement.{statement}
 use Rattle.marks.proofs.settled.turn_fate.Tie as tie
 
 entry-at-requires : tie.Need-entry-at-requires
-entry-at-requires c κs = search needs
+entry-at-requires c κs = search row-held
 
 end-at-requires : tie.Need-end-at-requires
-end-at-requires c κs = search needs
+end-at-requires c κs = search row-held
 
 fate-requires : tie.Need-fate-requires
-fate-requires c κs = search needs
+fate-requires c κs = (search needs, (search needs, (search clocks-fit, search read-allowed)))
 
 returns : tie.Need-returns
 returns c = search fate-found

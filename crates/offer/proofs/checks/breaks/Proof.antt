@@ -1,14 +1,16 @@
 -- `breaks` meets its contract: of a marked MAINTAIN the condition decides.
 use borrow.Author.Needs.{needs}
-use Rattle.offer.proofs.Checking.{holds-out, breaks-if}
+use Rattle.part.proofs.Places.{row-held}
+use Rattle.record.proofs.Marks.{mark-inside}
+use Rattle.offer.proofs.Checking.{holds-out, maintained, breaks-if}
 use Rattle.offer.proofs.checks.breaks.Statement.{statement}
 use Rattle.offer.proofs.checks.breaks.Tie as tie
 
 entry-at-requires : tie.Need-entry-at-requires
-entry-at-requires c κs = search needs
+entry-at-requires c κs = search row-held
 
 is-marked-requires : tie.Need-is-marked-requires
-is-marked-requires c κs = search needs
+is-marked-requires c κs = search mark-inside
 
 is-maintain-requires : tie.Need-is-maintain-requires
 is-maintain-requires c κs = search needs
@@ -17,7 +19,7 @@ returns : tie.Need-returns
 returns c = search holds-out
 
 judged-requires : tie.Need-judged-requires
-judged-requires c κs = search needs
+judged-requires c κs = (search needs, (search needs, search maintained))
 
 is-violated-requires : tie.Need-is-violated-requires
 is-violated-requires c κs = search needs

@@ -1,6 +1,7 @@
 -- `judged` meets its contract: the part of the record that is lent is the estimate of the program's variables.
 use borrow.Author.Needs.{needs}
-use Rattle.offer.proofs.Checking.{judged-lent}
+use Rattle.record.proofs.Marks.{clocks-fit}
+use Rattle.offer.proofs.Checking.{lent-length, judged-lent}
 use Rattle.offer.proofs.checks.judged.Statement.{statement}
 use Rattle.offer.proofs.checks.judged.Tie as tie
 
@@ -23,7 +24,7 @@ part-outcome-end : tie.Need-part-outcome-end
 part-outcome-end c = search needs
 
 outcome-requires : tie.Need-outcome-requires
-outcome-requires c κs = search needs
+outcome-requires c κs = (search needs, (search lent-length, (search clocks-fit, search needs)))
 
 returns : tie.Need-returns
 returns c = search judged-lent

@@ -1,17 +1,18 @@
 -- `turn` meets its contract: a mark that is to be dropped is dropped, and any other stays and may begin a run of marks that are.
 use borrow.Author.Needs.{needs}
-use Rattle.offer.proofs.Checking.{skip-drops, skip-begins, skip-none, mark-dropped, mark-stays}
+use Rattle.part.proofs.Places.{row-held}
+use Rattle.offer.proofs.Checking.{mark-dropping, skip-drops, skip-begins, skip-none, mark-dropped, mark-stays}
 use Rattle.offer.proofs.checks.turn.Statement.{statement}
 use Rattle.offer.proofs.checks.turn.Tie as tie
 
 wide-requires : tie.Need-wide-requires
 wide-requires c κs = search needs
 
-add-put : tie.Need-add-put
-add-put c = search needs
+add-store : tie.Need-add-store
+add-store c = search needs
 
-put-requires : tie.Need-put-requires
-put-requires c κs = search needs
+store-requires : tie.Need-store-requires
+store-requires c κs = search mark-dropping
 
 sub-result : tie.Need-sub-result
 sub-result c = search needs
@@ -26,7 +27,7 @@ breaks-requires : tie.Need-breaks-requires
 breaks-requires c κs = search needs
 
 inside-of-requires : tie.Need-inside-of-requires
-inside-of-requires c κs = search needs
+inside-of-requires c κs = search row-held
 
 same-length-2 : tie.Need-same-length-2
 same-length-2 c = search needs
@@ -45,8 +46,8 @@ turn-spec =
     tie.close
     (tie.spec
     wide-requires
-    add-put
-    put-requires
+    add-store
+    store-requires
     sub-result
     same-length
     returns

@@ -1,25 +1,26 @@
 -- `link_at` meets its contract: each row is as long as the one before it.
 use borrow.Author.Needs.{needs}
+use Rattle.part.proofs.Places.{link-inside}
 use Rattle.part.proofs.held.link_at.Statement.{statement}
 use Rattle.part.proofs.held.link_at.Tie as tie
 
 wide-requires : tie.Need-wide-requires
 wide-requires c κs = search needs
 
-mul-number-at : tie.Need-mul-number-at
-mul-number-at c = search needs
+mul-result : tie.Need-mul-result
+mul-result c = search needs
 
-add-number-at : tie.Need-add-number-at
-add-number-at c = search needs
+add-result : tie.Need-add-result
+add-result c = search needs
 
 wide-requires-2 : tie.Need-wide-requires-2
 wide-requires-2 c κs = search needs
 
-add-number-at-2 : tie.Need-add-number-at-2
-add-number-at-2 c = search needs
+add-result-2 : tie.Need-add-result-2
+add-result-2 c = search needs
 
-number-at-requires : tie.Need-number-at-requires
-number-at-requires c κs = search needs
+shared-slice-read-result : tie.Need-shared-slice-read-result
+shared-slice-read-result c = search link-inside
 
 returns : tie.Need-returns
 returns c = cc
@@ -29,9 +30,9 @@ link-at-spec =
     tie.close
     (tie.spec
     wide-requires
-    mul-number-at
-    add-number-at
+    mul-result
+    add-result
     wide-requires-2
-    add-number-at-2
-    number-at-requires
+    add-result-2
+    shared-slice-read-result
     returns)

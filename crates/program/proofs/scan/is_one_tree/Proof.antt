@@ -3,6 +3,7 @@ use Prim.Native.Nat.{_+_, _-_, _*_, _≤_}
 use mathlib.Core.Path.{_≡_, refl}
 use lib.ListN.{drop}
 use borrow.Author.Needs.{needs}
+use Rattle.meaning.specs.declared.Form.the-variants.{File}
 use Rattle.meaning.specs.Program.{entries}
 use Rattle.program.specs.Counting.{fills}
 use Rattle.program.proofs.Scans.{fills-next, fills-stops, fills-ends}
@@ -10,10 +11,10 @@ use Rattle.program.proofs.scan.is_one_tree.Statement.{statement}
 use Rattle.program.proofs.scan.is_one_tree.Tie as tie
 
 abbrev Inv-loop : tie.InvT-loop
-Inv-loop s form due₀ p₀ p-end due p = (due ≤ 1 + 255 * p) × (fills (drop p (entries form s)) due ≡ fills (entries form s) 1)
+Inv-loop s due₀ p₀ p-end due p = (due ≤ 1 + 255 * p) × (fills (drop p (entries File s)) due ≡ fills (entries File s) 1)
 
 abbrev μ-loop : tie.MeasureT-loop
-μ-loop s form due₀ p₀ p-end due p = p-end - p
+μ-loop s due₀ p₀ p-end due p = p-end - p
 
 parts-requires : tie.Need-parts-requires Inv-loop μ-loop
 parts-requires c κs = search needs

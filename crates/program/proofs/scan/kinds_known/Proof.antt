@@ -4,16 +4,17 @@ use mathlib.Core.Path.{_≡_, refl}
 use lib.ListN.{drop}
 use borrow.Author.Needs.{needs}
 use Rattle.base.specs.Lists.{all}
+use Rattle.meaning.specs.declared.Form.the-variants.{File}
 use Rattle.meaning.specs.Program.{entries, knownEntry}
 use Rattle.program.proofs.Scans.{all-passes, all-fails, all-ends}
 use Rattle.program.proofs.scan.kinds_known.Statement.{statement}
 use Rattle.program.proofs.scan.kinds_known.Tie as tie
 
 abbrev Inv-loop : tie.InvT-loop
-Inv-loop s form p₀ p-end p = all knownEntry (drop p (entries form s)) ≡ all knownEntry (entries form s)
+Inv-loop s p₀ p-end p = all knownEntry (drop p (entries File s)) ≡ all knownEntry (entries File s)
 
 abbrev μ-loop : tie.MeasureT-loop
-μ-loop s form p₀ p-end p = p-end - p
+μ-loop s p₀ p-end p = p-end - p
 
 parts-requires : tie.Need-parts-requires Inv-loop μ-loop
 parts-requires c κs = search needs

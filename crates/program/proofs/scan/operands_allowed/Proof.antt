@@ -4,16 +4,17 @@ use mathlib.Core.Path.{_≡_}
 use lib.ListN.{drop}
 use borrow.Author.Needs.{needs}
 use Rattle.base.specs.Lists.{all}
+use Rattle.meaning.specs.declared.Form.the-variants.{File}
 use Rattle.meaning.specs.Program.{variables, clocks, entries, allowedEntry}
 use Rattle.program.proofs.Scans.{all-passes, all-fails, all-ends}
 use Rattle.program.proofs.scan.operands_allowed.Statement.{statement}
 use Rattle.program.proofs.scan.operands_allowed.Tie as tie
 
 abbrev Inv-loop : tie.InvT-loop
-Inv-loop s form v k p₀ p-end p = all (allowedEntry v k) (drop p (entries form s)) ≡ all (allowedEntry (variables s) (clocks s)) (entries form s)
+Inv-loop s v k p₀ p-end p = all (allowedEntry v k) (drop p (entries File s)) ≡ all (allowedEntry (variables s) (clocks s)) (entries File s)
 
 abbrev μ-loop : tie.MeasureT-loop
-μ-loop s form v k p₀ p-end p = p-end - p
+μ-loop s v k p₀ p-end p = p-end - p
 
 variables-requires : tie.Need-variables-requires Inv-loop μ-loop
 variables-requires c κs = search needs

@@ -4,38 +4,38 @@ use Rattle.record.proofs.TimeBytes.{time-stored}
 use Rattle.record.proofs.times.put_time.Statement.{statement}
 use Rattle.record.proofs.times.put_time.Tie as tie
 
-cast-put : tie.Need-cast-put
-cast-put c = search needs
+cast-store : tie.Need-cast-store
+cast-store c = search needs
 
-put-requires : tie.Need-put-requires
-put-requires c κs = search needs
+store-requires : tie.Need-store-requires
+store-requires c κs = search needs
 
-add-put : tie.Need-add-put
-add-put c = search needs
+add-store : tie.Need-add-store
+add-store c = search needs
 
-cast-put-2 : tie.Need-cast-put-2
-cast-put-2 c = search needs
+cast-store-2 : tie.Need-cast-store-2
+cast-store-2 c = search needs
 
-put-requires-2 : tie.Need-put-requires-2
-put-requires-2 c κs = search needs
+store-requires-2 : tie.Need-store-requires-2
+store-requires-2 c κs = search needs
 
-add-put-2 : tie.Need-add-put-2
-add-put-2 c = search needs
+add-store-2 : tie.Need-add-store-2
+add-store-2 c = search needs
 
-cast-put-3 : tie.Need-cast-put-3
-cast-put-3 c = search needs
+cast-store-3 : tie.Need-cast-store-3
+cast-store-3 c = search needs
 
-put-requires-3 : tie.Need-put-requires-3
-put-requires-3 c κs = search needs
+store-requires-3 : tie.Need-store-requires-3
+store-requires-3 c κs = search needs
 
-add-put-3 : tie.Need-add-put-3
-add-put-3 c = search needs
+add-store-3 : tie.Need-add-store-3
+add-store-3 c = search needs
 
-cast-put-4 : tie.Need-cast-put-4
-cast-put-4 c = search needs
+cast-store-4 : tie.Need-cast-store-4
+cast-store-4 c = search needs
 
-put-requires-4 : tie.Need-put-requires-4
-put-requires-4 c κs = search needs
+store-requires-4 : tie.Need-store-requires-4
+store-requires-4 c κs = search needs
 
 same-length : tie.Need-same-length
 same-length c = search needs
@@ -47,22 +47,22 @@ returns c =
     let p2 = p3 .before .before .before .before in
     let p1 = p2 .before .before .before .before in
     let given = p1 .before .before .before .args in
-    time-stored (given .r .now) _ _ _ _ (given .i) (given .x) (p1 .put .ensures) (p2 .put2 .ensures) (p3 .put3 .ensures) (p4 .put4 .ensures)
+    time-stored (given .r .now) _ _ _ _ (given .i) (given .x) (p1 .store .ensures) (p2 .store2 .ensures) (p3 .store3 .ensures) (p4 .store4 .ensures)
 
 pub put-time-spec : {M : Type 1} → statement M
 put-time-spec =
     tie.close
     (tie.spec
-    cast-put
-    put-requires
-    add-put
-    cast-put-2
-    put-requires-2
-    add-put-2
-    cast-put-3
-    put-requires-3
-    add-put-3
-    cast-put-4
-    put-requires-4
+    cast-store
+    store-requires
+    add-store
+    cast-store-2
+    store-requires-2
+    add-store-2
+    cast-store-3
+    store-requires-3
+    add-store-3
+    cast-store-4
+    store-requires-4
     same-length
     returns)

@@ -7,14 +7,14 @@ use Rattle.report.proofs.rows.row_numbers.Tie as tie
 entry-at-requires : tie.Need-entry-at-requires
 entry-at-requires c κs = search needs
 
-number-in-requires : tie.Need-number-in-requires
-number-in-requires c κs = search needs
+end-at-requires : tie.Need-end-at-requires
+end-at-requires c κs = search needs
 
-number-in-requires-2 : tie.Need-number-in-requires-2
-number-in-requires-2 c κs = search needs
+parent-at-requires : tie.Need-parent-at-requires
+parent-at-requires c κs = search needs
 
-number-in-requires-3 : tie.Need-number-in-requires-3
-number-in-requires-3 c κs = search needs
+next-at-requires : tie.Need-next-at-requires
+next-at-requires c κs = search needs
 
 cast-t10 : tie.Need-cast-t10
 cast-t10 c = search needs
@@ -48,9 +48,9 @@ row-numbers-spec =
     tie.close
     (tie.spec
     entry-at-requires
-    number-in-requires
-    number-in-requires-2
-    number-in-requires-3
+    end-at-requires
+    parent-at-requires
+    next-at-requires
     cast-t10
     cast-t11
     cast-t12

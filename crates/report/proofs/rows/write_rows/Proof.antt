@@ -5,8 +5,8 @@ use mathlib.Core.Path.{_≡_, refl, _∙_}
 use borrow.Author.Needs.{needs}
 use lib.ListN.{length}
 use Rattle.meaning.specs.Program.{parts}
-use Rattle.report.specs.Listing.{rowLines}
 use Rattle.text.proofs.Texts.{Writing}
+use Rattle.report.specs.Listing.{rowLines}
 use Rattle.report.proofs.Lined.{rows-first, rows-room, rows-step, rows-end}
 use Rattle.report.proofs.rows.write_rows.Statement.{statement}
 use Rattle.report.proofs.rows.write_rows.Tie as tie
@@ -24,7 +24,7 @@ loop-holds : tie.Need-loop-holds Inv-loop μ-loop
 loop-holds c = (refl, search rows-first)
 
 write-row-requires : tie.Need-write-row-requires Inv-loop μ-loop
-write-row-requires c κs = search rows-room
+write-row-requires c κs = (search needs, search rows-room)
 
 add-p : tie.Need-add-p Inv-loop μ-loop
 add-p c = omega arith

@@ -17,7 +17,7 @@ write-line-requires : tie.Need-write-line-requires
 write-line-requires c κs = omega (arith, line-fits (c .before .before .size-numbers .result), ap length (c .before .before .size-numbers .ensures))
 
 write-rows-requires : tie.Need-write-rows-requires
-write-rows-requires c κs = table-room _ _ _ (c .before .before .before .before .before .before .size-numbers .ensures) (c .before .before .before .write-line .ensures .after) (c .before .before .before .before .before .before .before .before .shared-slice-known .given 0 .fits)
+write-rows-requires c κs = (search needs, table-room _ _ _ (c .before .before .before .before .before .before .size-numbers .ensures) (c .before .before .before .write-line .ensures .after) (c .before .before .before .before .before .before .before .before .shared-slice-known .given 0 .fits))
 
 same-length : tie.Need-same-length
 same-length c = search needs

@@ -1,23 +1,24 @@
 -- `pending_after` meets its contract: a mark that is not set changes nothing, a CHOICE gives its end, and any other part 0.
-use Rattle.settle.proofs.Deciding.{pending-kept, pending-choice, pending-none}
 use borrow.Author.Needs.{needs}
+use Rattle.part.proofs.Places.{row-held}
+use Rattle.settle.proofs.Deciding.{pending-kept, pending-choice, pending-none}
 use Rattle.settle.proofs.works.pending_after.Statement.{statement}
 use Rattle.settle.proofs.works.pending_after.Tie as tie
 
 wide-requires : tie.Need-wide-requires
 wide-requires c κs = search needs
 
-at-requires : tie.Need-at-requires
-at-requires c κs = search needs
+shared-slice-read-if1 : tie.Need-shared-slice-read-if1
+shared-slice-read-if1 c = search needs
 
 returns : tie.Need-returns
 returns c = search pending-kept
 
 entry-at-requires : tie.Need-entry-at-requires
-entry-at-requires c κs = search needs
+entry-at-requires c κs = search row-held
 
 end-at-requires : tie.Need-end-at-requires
-end-at-requires c κs = search needs
+end-at-requires c κs = search row-held
 
 returns-2 : tie.Need-returns-2
 returns-2 c = search pending-choice
@@ -30,7 +31,7 @@ pending-after-spec =
     tie.close
     (tie.spec
     wide-requires
-    at-requires
+    shared-slice-read-if1
     returns
     entry-at-requires
     end-at-requires

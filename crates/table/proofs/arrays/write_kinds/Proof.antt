@@ -31,11 +31,11 @@ entry-at-requires c κs = search needs
 wide-requires : tie.Need-wide-requires Inv-loop μ-loop
 wide-requires c κs = search needs
 
-add-put : tie.Need-add-put Inv-loop μ-loop
-add-put c = omega arith
+add-store : tie.Need-add-store Inv-loop μ-loop
+add-store c = omega arith
 
-put-requires : tie.Need-put-requires Inv-loop μ-loop
-put-requires c κs = search needs
+store-requires : tie.Need-store-requires Inv-loop μ-loop
+store-requires c κs = search needs
 
 add-p : tie.Need-add-p Inv-loop μ-loop
 add-p c = omega arith
@@ -45,8 +45,8 @@ loop-less c = omega arith
 
 loop-again : tie.Need-loop-again Inv-loop μ-loop
 loop-again c = (
-  c .before .before .put .kept .0 ∙ c .before .before .before .before .before .before .before .loop .inv .0,
-  kind-step _ _ _ _ _ _ _ _ (c .before .before .before .before .before .before .before .before .parts .ensures) (c .before .before .before .before .before .before .before .loop .inv .1) (c .before .before .before .before .before .before .loop-test .taken) (c .before .before .before .before .before .entry-at .ensures) (c .before .before .before .wide .ensures) (c .before .before .put .ensures),
+  c .before .before .store .kept .0 ∙ c .before .before .before .before .before .before .before .loop .inv .0,
+  kind-step _ _ _ _ _ _ _ _ (c .before .before .before .before .before .before .before .before .parts .ensures) (c .before .before .before .before .before .before .before .loop .inv .1) (c .before .before .before .before .before .before .loop-test .taken) (c .before .before .before .before .before .entry-at .ensures) (c .before .before .before .wide .ensures) (c .before .before .store .ensures),
 )
 
 same-length : tie.Need-same-length Inv-loop μ-loop
@@ -65,8 +65,8 @@ write-kinds-spec =
     loop-holds
     entry-at-requires
     wide-requires
-    add-put
-    put-requires
+    add-store
+    store-requires
     add-p
     loop-less
     loop-again

@@ -1,6 +1,6 @@
 -- `entry_at` meets its contract: a walk of its MIR, by hand. The walker that one call returns is held in a local and passed to the next. All that the proof knows of `root`, `stepped` and `part` is that each meets its contract.
 -- In a local of a body MIR erases the lifetime of the walker's type, so its value is shown to have the type at `erased`: what the walker owns does not say the lifetime's name. What a form and a number own is made anew for each call.
-use mathlib.Core.Path.{_≡_, refl, ap, _∙_}
+use mathlib.Core.Path.{_≡_, refl, ap, _∙_, sym, subst}
 use Prim.Native.Nat.{ℕ}
 use mathlib.Core.List.{List, [], _∷_}
 use lib.ListN.{length}
@@ -34,10 +34,11 @@ use denote.Triple.Call.{calls-at}
 use denote.Triple.Entry.{Vals, onEntry}
 use denote.Triple.Spec.{Meets, tripleOf}
 use denote.Triple.Table.{entered, cited}
-use denote.Triple.Walked.{says, Stays, stay-none, stay-none-slice, walkOf, goes-none, goes-none-slice, Walks, ends-at, walked, walk-meets}
+use denote.Triple.Walked.{says, needs, Stays, stay-none, stay-none-slice, walkOf, goes-none, goes-none-slice, Walks, ends-at, walked, walk-meets}
 use denote.Exit.{yes}
 use denote.Triple.Clauses.{ensured, lasts}
 use Rattle.meaning.specs.Program.{entryAt}
+use Rattle.part.specs.Held.{Held as Lies}
 use Rattle.meaning.specs.declared.Form.{Form}
 use Rattle.meaning.specs.declared.Entry.{Entry}
 use Rattle.meaning.proofs.Form as F
@@ -142,10 +143,10 @@ module _ {M : Type 1} (𝓤 : URA M) (H : Heap 𝓤) (A : Atoms 𝓤) (W : Given
   abbrev to-part : Walker → Val → Part 𝓤 H A mem run .Ghost
   to-part w u = (((κ, tt), (q, tt), tt, (w, (form, tt)), (u ∷ [], (f ∷ [], tt))), tt)
 
-  goes-part : Is F.the-row form (f ∷ []) → (w : Walker) (u : Val) → ent 𝓤 (⋆ 𝓤 H A (‵ (B (κ, tt) .own w (u ∷ [])) ∷ (‵ (flft κ q) ⊛ ‵ ftrue) ∷ [])) (Part 𝓤 H A mem run .pre (to-part w u))
-  goes-part is-form w u =
+  goes-part : Is F.the-row form (f ∷ []) → (w : Walker) (u : Val) → Lies form (now (w .file)) (w .next) → ent 𝓤 (⋆ 𝓤 H A (‵ (B (κ, tt) .own w (u ∷ [])) ∷ (‵ (flft κ q) ⊛ ‵ ftrue) ∷ [])) (Part 𝓤 H A mem run .pre (to-part w u))
+  goes-part is-form w u lies =
       qed W (‵ (B (κ, tt) .own w (u ∷ [])) ∷ (‵ (flft κ q) ⊛ ‵ ftrue) ∷ []) ∵ nothing ! $ owned ! F.the-row (Is F.the-row) (EL.makes F.the-type F′.the-plain 𝓤 H A) form _ is-form $ fjoin ! $
-      move ! (1 ∷ 0 ∷ []) $ fjoin ! $ move ! (1 ∷ 0 ∷ []) $ join ! $ frame ! $ done !
+      move ! (1 ∷ 0 ∷ []) $ fjoin ! $ move ! (1 ∷ 0 ∷ []) $ says ! lies $ frame ! $ done !
 
   abbrev AtWalker : Walker → Entry → Type 0
   AtWalker w e = e ≡ entryAt form (now (w .file)) (w .next)
@@ -157,6 +158,9 @@ module _ {M : Type 1} (𝓤 : URA M) (H : Heap 𝓤) (A : Atoms 𝓤) (W : Given
   is-found : (w w₁ : Walker) (e : Entry) → AtRoot w → SteppedFrom w w₁ → AtWalker w₁ e → e ≡ found
   is-found w w₁ e a b h = h ∙ (ap (λ (x : RefT (List ℕ)). entryAt form (now x) (w₁ .next)) (b .0 ∙ a .0) ∙ ap (entryAt form (now s)) (b .1))
 
+  lies-there : (w w₁ : Walker) → AtRoot w → SteppedFrom w w₁ → Lies form (now s) p → Lies form (now (w₁ .file)) (w₁ .next)
+  lies-there w w₁ a b lies = subst (λ (i : ℕ). Lies form (now (w₁ .file)) i) (sym (b .1)) (subst (λ (x : RefT (List ℕ)). Lies form (now x) p) (sym (b .0 ∙ a .0)) lies)
+
   exits : Is F.the-row form (f ∷ []) → Held p → (e : Entry) (u : Val) → e ≡ found → ent 𝓤 (⋆ 𝓤 H A (‵ (E.the-row .own e (u ∷ [])) ∷ (‵ (flft κ q) ⊛ ‵ ftrue) ∷ ‵ Own ∷ [])) (Post u)
   exits is-form ok e u is =
       qed W (‵ (E.the-row .own e (u ∷ [])) ∷ (‵ (flft κ q) ⊛ ‵ ftrue) ∷ ‵ Own ∷ []) ∵
@@ -165,8 +169,8 @@ module _ {M : Type 1} (𝓤 : URA M) (H : Heap 𝓤) (A : Atoms 𝓤) (W : Given
       move ! (2 ∷ 0 ∷ []) $ fjoin ! $ frame ! $ done !
 
   module _ (C : Calls 𝓤 H) (Λ : Loops 𝓤 H) (fm : FmC 𝓤 H (W .laws) C) (known-root : Triple 𝓤 (C #walk·walker·root) (Root 𝓤 H A mem run)) (known-stepped : Triple 𝓤 (C #walk·walker·stepped) (Stepped 𝓤 H A mem run)) (known-part : Triple 𝓤 (C #walk·walker·part) (Part 𝓤 H A mem run)) where
-    walk : Is (ShrSlice (named 0) κ u8) s (v ∷ []) → Is F.the-row form (f ∷ []) → Held p → ent 𝓤 (onEntry 𝓤 H A entry-at.signature (κ, tt) (q, tt) (s, (form, (p, tt))) at) (WpFn 𝓤 H C Λ code.function (v ∷ f ∷ vint width p ∷ []) Post)
-    walk is-s is-form ok =
+    walk : Lies form (now s) p → Is (ShrSlice (named 0) κ u8) s (v ∷ []) → Is F.the-row form (f ∷ []) → Held p → ent 𝓤 (onEntry 𝓤 H A entry-at.signature (κ, tt) (q, tt) (s, (form, (p, tt))) at) (WpFn 𝓤 H C Λ code.function (v ∷ f ∷ vint width p ∷ []) Post)
+    walk lies is-s is-form ok =
         qed W (raw (onEntry 𝓤 H A entry-at.signature (κ, tt) (q, tt) (s, (form, (p, tt))) at) ∷ []) ∵ enter ! C Λ code.function (v ∷ f ∷ vint width p ∷ []) _ $
         alloc1 ! (λ l₀. alloc1 ! (λ l₁. alloc1 ! (λ l₂. alloc1 ! (λ l₃. alloc1 ! (λ l₄. alloc1 ! (λ l₅. alloc0 ! $ params1 ! $
         pass1 ! (init ! 8 refl (shr-slice-lawful 𝓤 H A W (named 0) κ u8 .typed s (v ∷ []) is-s .0)) $ pass1 ! (init ! 6 refl (EL.lawful F.the-type F′.the-laws 𝓤 H A W tt .typed form _ is-form .0)) $ pass1 ! (init ! 4 refl (tt, record { fits = ok })) $ pass0 ! $
@@ -184,7 +188,7 @@ module _ {M : Type 1} (𝓤 : URA M) (H : Heap 𝓤) (A : Atoms 𝓤) (W : Given
         -- [what the walker owns; the token; what s owns; _5; …; room for _4; …; _3; …; _2; …; _1; …; room for _0; …]
         peeks ! (B (κ, tt)) (Is (B (κ, tt))) (shows 𝓤 H A (B (κ, tt))) w₁ (u₁ ∷ []) (λ is-w₁.
         land ! (from ! (stop !)) (init ! 5 refl (LL.lawful (T.the-type αᵉ) (T′.the-laws αᵉ) 𝓤 H A W .typed w₁ _ is-w₁ .0)) $
-        use2 W (raw (Part 𝓤 H A mem run .pre (to-part w₁ u₁))) (goes-part is-form w₁ u₁) $
+        use2 W (raw (Part 𝓤 H A mem run .pre (to-part w₁ u₁))) (goes-part is-form w₁ u₁ (lies-there w w₁ a b lies)) $
         calls-at ! fm (Part 𝓤 H A mem run) known-part (to-part w₁ u₁) (and-then ! (load ! (from ! (stop !)) (look ! 4 refl)) (and-then ! (load ! (from ! (stop !)) (look ! 8 refl)) (no-more !))) (λ u₂.
         use1 W (later (some (λ (e : Entry). ((‵ (flft κ q) ⊛ ‵ ftrue) ⊛ ‵ (E.the-row .own e (u₂ ∷ []))) ⊛ raw (ensured 𝓤 H A part.ended (part.clauses 𝓤 H A mem run) (κ, tt) (w₁, (form, tt)) tt e)))) (id⊢ 𝓤 _) $ await ! tt $ pick ! (λ e.
         split ! $ move ! (1 ∷ []) $ use1 W (raw (fact 𝓤 (AtWalker w₁ e))) (part-said w₁ e) $ heard ! (AtWalker w₁ e) (λ h. split ! $ move ! (1 ∷ []) $
@@ -199,7 +203,7 @@ module _ {M : Type 1} (𝓤 : URA M) (H : Heap 𝓤) (A : Atoms 𝓤) (W : Given
   entry-at-walks : (C : Calls 𝓤 H) (Λ : Loops 𝓤 H) → FmC 𝓤 H (W .laws) C → Triple 𝓤 (C #walk·walker·root) (Root 𝓤 H A mem run) → Triple 𝓤 (C #walk·walker·stepped) (Stepped 𝓤 H A mem run) → Triple 𝓤 (C #walk·walker·part) (Part 𝓤 H A mem run)
       → Walks 𝓤 H A entry-at.ended stayed (WpFn 𝓤 H C Λ code.function) (entry-at.clauses 𝓤 H A mem run)
   entry-at-walks C Λ fm known-root known-stepped known-part = walked 𝓤 H A entry-at.ended stayed (entry-at.clauses 𝓤 H A mem run) (WpFn 𝓤 H C Λ code.function) (λ κs. (slice-vals, (EL.vals F.the-type F′.the-laws, (uint-vals width, tt)))) (λ κs. (shr-slice-tells (named 0) (κs .0) u8, (EL.tells F.the-type F′.the-laws, (uint-tells width, tt))))
-      (λ κs qs bounds a g are. via 𝓤 _ (fst∗ 𝓤 _ (emp 𝓤)) (walk 𝓤 H A W mem run (κs .0) (qs .0) (a .0) (a .1 .0) (a .1 .1 .0) C Λ fm known-root known-stepped known-part (are .0) (are .1 .0) (are .1 .1 .0 .1)))
+      (λ κs qs bounds a g are. needs 𝓤 (Lies (a .1 .0) (now (a .0)) (a .1 .1 .0)) _ (λ lies. walk 𝓤 H A W mem run (κs .0) (qs .0) (a .0) (a .1 .0) (a .1 .1 .0) C Λ fm known-root known-stepped known-part lies (are .0) (are .1 .0) (are .1 .1 .0 .1)))
 
 entry-at-meets : {M : Type 1} (𝓤 : URA M) (H : Heap 𝓤) (A : Atoms 𝓤) (W : Given 𝓤 H A) (mem : Memory → SProp 𝓤) (run : Routine → Fun 𝓤) (𝓣 : Tables 𝓤 H)
     → Triple 𝓤 (𝓣 .C #walk·walker·root) (Root 𝓤 H A mem run) → Triple 𝓤 (𝓣 .C #walk·walker·stepped) (Stepped 𝓤 H A mem run) → Triple 𝓤 (𝓣 .C #walk·walker·part) (Part 𝓤 H A mem run)

@@ -37,10 +37,11 @@ use denote.Triple.Call.{calls-at}
 use denote.Triple.Entry.{Vals, onEntry}
 use denote.Triple.Spec.{Meets, tripleOf}
 use denote.Triple.Table.{entered, cited}
-use denote.Triple.Walked.{says, Stays, stay-none, walkOf, goes-none, Walks, ends-at, walked, walk-meets}
+use denote.Triple.Walked.{says, needs, Stays, stay-none, walkOf, goes-none, Walks, ends-at, walked, walk-meets}
 use denote.Exit.{yes}
 use denote.Triple.Clauses.{ensured, lasts}
 use Rattle.meaning.specs.Program.{entryAt}
+use Rattle.part.specs.Held.{Held as Lies}
 use Rattle.meaning.specs.declared.Form.{Form}
 use Rattle.meaning.specs.declared.Entry.{Entry}
 use Rattle.walk.specs.declared.walker.Walker.{Walker}
@@ -103,18 +104,18 @@ module _ {M : Type 1} (𝓤 : URA M) (H : Heap 𝓤) (A : Atoms 𝓤) (W : Given
   abbrev to : ReadEntry 𝓤 H A mem run .Ghost
   to = (((κ, tt), (q, tt), tt, (d .file, (form, (d .next, tt))), passed), tt)
 
-  asked : ent 𝓤 (onEntry 𝓤 H A entry.signature (κ, tt) (q, tt) (d .file, (form, (d .next, tt))) passed) (ReadEntry 𝓤 H A mem run .pre to)
-  asked = qed W ((‵ (flft κ q) ⊛ ‵ ftrue) ∷ ‵ (owns (ShrSlice (named 0) κ u8 ∷ F.the-row ∷ number ∷ []) (d .file, (form, (d .next, tt))) passed) ∷ []) ∵ join ! $ frame ! $ done !
+  asked : Lies form (now (d .file)) (d .next) → ent 𝓤 (onEntry 𝓤 H A entry.signature (κ, tt) (q, tt) (d .file, (form, (d .next, tt))) passed) (ReadEntry 𝓤 H A mem run .pre to)
+  asked lies = qed W ((‵ (flft κ q) ⊛ ‵ ftrue) ∷ ‵ (owns (ShrSlice (named 0) κ u8 ∷ F.the-row ∷ number ∷ []) (d .file, (form, (d .next, tt))) passed) ∷ []) ∵ says ! lies $ frame ! $ done !
 
   -- what the struct owns gives what the callee asks, and is kept
-  apart : Held (d .next) → Is F.the-row form (formVal form ∷ []) → ent 𝓤 (onEntry 𝓤 H A part.signature (κ, tt) (q, tt) (d, (form, tt)) at) (sep 𝓤 (ReadEntry 𝓤 H A mem run .pre to) (sem 𝓤 H A Own))
-  apart fits is-form =
+  apart : Lies form (now (d .file)) (d .next) → Held (d .next) → Is F.the-row form (formVal form ∷ []) → ent 𝓤 (onEntry 𝓤 H A part.signature (κ, tt) (q, tt) (d, (form, tt)) at) (sep 𝓤 (ReadEntry 𝓤 H A mem run .pre to) (sem 𝓤 H A Own))
+  apart lies fits is-form =
       qed W ((‵ (flft κ q) ⊛ ‵ ftrue) ∷ ‵ (owns (B (κ, tt) ∷ F.the-row ∷ []) (d, (form, tt)) at) ∷ []) ∵
       move ! (1 ∷ []) $ fsplit ! $ move ! (1 ∷ []) $ drop ! $ use1 W (‵ Own ⊛ ‵ Own) (LL.copy D (T′.the-copy (namedLft 1 0 tt (κ, tt))) 𝓤 H A W .twice d (walkerVal d ∷ [])) $ split ! $
       use1 W (given (walkerVal d ∷ [] ≡ walkerVal d ∷ []) (‵ (all-own (D .parts) L vd))) (own-open 𝓤 H A W D L vd (walkerVal d)) $ learn ! (λ _. use1 W (‵ (ownAt (D .parts) L 0 (d .file)) ⊛ ‵ (rest (D .parts) L 0 vd)) (own-out 𝓤 H A W (D .parts) L 0 vd) $ split ! $
       -- [what file owns; what next owns; what the struct owns; the token]
       move ! (1 ∷ []) $ drop ! $ nothing ! $ owned ! number (Is number) (uint-makes 𝓤 H A W width) (d .next) _ (refl, fits) $ fjoin ! $ owned ! F.the-row (Is F.the-row) (EL.makes F.the-type F′.the-plain 𝓤 H A) form _ is-form $ fjoin ! $ move ! (1 ∷ 0 ∷ []) $ fjoin ! $
-      move ! (2 ∷ 0 ∷ []) $ use2 W (raw (ReadEntry 𝓤 H A mem run .pre to)) asked $ frame ! $ done !)
+      move ! (2 ∷ 0 ∷ []) $ use2 W (raw (ReadEntry 𝓤 H A mem run .pre to)) (asked lies) $ frame ! $ done !)
 
   -- of the callee's `ensured`, the clause alone: it has no `&mut`, so what is said of last values is dropped
   said : (r : Entry) → ent 𝓤 (ensured 𝓤 H A entry.ended (entry.clauses 𝓤 H A mem run) (κ, tt) (d .file, (form, (d .next, tt))) tt r) (fact 𝓤 (r ≡ found))
@@ -127,13 +128,13 @@ module _ {M : Type 1} (𝓤 : URA M) (H : Heap 𝓤) (A : Atoms 𝓤) (W : Given
       move ! (1 ∷ []) $ frame ! $ nothing ! $ owned ! F.the-row (Is F.the-row) (EL.makes F.the-type F′.the-plain 𝓤 H A) form _ is-form $ fjoin ! $ move ! (2 ∷ 0 ∷ []) $ fjoin ! $ frame ! $ done !
 
   module _ (C : Calls 𝓤 H) (Λ : Loops 𝓤 H) (fm : FmC 𝓤 H (W .laws) C) (known : Triple 𝓤 (C #part·held·read-entry) (ReadEntry 𝓤 H A mem run)) where
-    walk : Holds (hasTy (T′.mir (named 0)) (walkerVal d)) × WT (walkerVal d) → Is F.the-row form (formVal form ∷ []) → ent 𝓤 (onEntry 𝓤 H A part.signature (κ, tt) (q, tt) (d, (form, tt)) at) (WpFn 𝓤 H C Λ code.function (walkerVal d ∷ formVal form ∷ []) Post)
-    walk wt is-form =
+    walk : Lies form (now (d .file)) (d .next) → Holds (hasTy (T′.mir (named 0)) (walkerVal d)) × WT (walkerVal d) → Is F.the-row form (formVal form ∷ []) → ent 𝓤 (onEntry 𝓤 H A part.signature (κ, tt) (q, tt) (d, (form, tt)) at) (WpFn 𝓤 H C Λ code.function (walkerVal d ∷ formVal form ∷ []) Post)
+    walk lies wt is-form =
         qed W (raw (onEntry 𝓤 H A part.signature (κ, tt) (q, tt) (d, (form, tt)) at) ∷ []) ∵ enter ! C Λ code.function (walkerVal d ∷ formVal form ∷ []) _ $
         alloc1 ! (λ l₀. alloc1 ! (λ l₁. alloc1 ! (λ l₂. alloc1 ! (λ l₃. alloc1 ! (λ l₄. alloc0 ! $ params1 ! $ pass1 ! (init ! 6 refl wt) $ pass1 ! (init ! 4 refl (EL.lawful F.the-type F′.the-laws 𝓤 H A W tt .typed form _ is-form .0)) $ pass0 ! $
         assigns ! (of-opd ! (load ! (from ! (fld ! refl (stop !))) (look-in ! 6 (sub ! 0 refl (whole !))))) (from ! (stop !)) (init ! 2 refl (tt, wt .1 .0)) $
         assigns ! (of-opd ! (load ! (from ! (fld ! refl (stop !))) (look-in ! 6 (sub ! 1 refl (whole !))))) (from ! (stop !)) (init ! 0 refl (tt, wt .1 .1 .0)) $
-        move ! (10 ∷ []) $ use1 W (raw (ReadEntry 𝓤 H A mem run .pre to) ⊛ ‵ Own) (apart (wt .1 .1 .0 .fits) is-form) $ split ! $
+        move ! (10 ∷ []) $ use1 W (raw (ReadEntry 𝓤 H A mem run .pre to) ⊛ ‵ Own) (apart lies (wt .1 .1 .0 .fits) is-form) $ split ! $
         calls-at ! fm (ReadEntry 𝓤 H A mem run) known to (and-then ! (load ! (from ! (stop !)) (look ! 4 refl)) (and-then ! (load ! (from ! (stop !)) (look ! 6 refl)) (and-then ! (load ! (from ! (stop !)) (look ! 2 refl)) (no-more !)))) (λ u.
         use1 W (later (some (λ (r : Entry). ((‵ (flft κ q) ⊛ ‵ ftrue) ⊛ ‵ (E.the-row .own r (u ∷ []))) ⊛ raw (ensured 𝓤 H A entry.ended (entry.clauses 𝓤 H A mem run) (κ, tt) (d .file, (form, (d .next, tt))) tt r)))) (id⊢ 𝓤 _) $ await ! tt $ pick ! (λ r.
         split ! $ move ! (1 ∷ []) $ use1 W (raw (fact 𝓤 (r ≡ found))) (said r) $ heard ! (r ≡ found) (λ e. split ! $ move ! (1 ∷ []) $
@@ -147,7 +148,7 @@ module _ {M : Type 1} (𝓤 : URA M) (H : Heap 𝓤) (A : Atoms 𝓤) (W : Given
   part-walks : (C : Calls 𝓤 H) (Λ : Loops 𝓤 H) → FmC 𝓤 H (W .laws) C → Triple 𝓤 (C #part·held·read-entry) (ReadEntry 𝓤 H A mem run)
       → Walks 𝓤 H A part.ended stayed (WpFn 𝓤 H C Λ code.function) (part.clauses 𝓤 H A mem run)
   part-walks C Λ fm known = walked 𝓤 H A part.ended stayed (part.clauses 𝓤 H A mem run) (WpFn 𝓤 H C Λ code.function) (λ κs. (LL.vals (T.the-type (namedLft 1 0 tt κs)) (T′.the-laws (namedLft 1 0 tt κs)), (EL.vals F.the-type F′.the-laws, tt))) (λ κs. (LL.tells (T.the-type (namedLft 1 0 tt κs)) (T′.the-laws (namedLft 1 0 tt κs)), (EL.tells F.the-type F′.the-laws, tt)))
-      (λ κs qs bounds a g are. via 𝓤 _ (fst∗ 𝓤 _ (emp 𝓤)) (walk 𝓤 H A W mem run (κs .0) (qs .0) (a .0) (a .1 .0) C Λ fm known (LL.lawful (T.the-type (namedLft 1 0 tt κs)) (T′.the-laws (namedLft 1 0 tt κs)) 𝓤 H A W .typed (a .0) _ (are .0) .0) (are .1 .0)))
+      (λ κs qs bounds a g are. needs 𝓤 (Lies (a .1 .0) (now (a .0 .file)) (a .0 .next)) _ (λ lies. walk 𝓤 H A W mem run (κs .0) (qs .0) (a .0) (a .1 .0) C Λ fm known lies (LL.lawful (T.the-type (namedLft 1 0 tt κs)) (T′.the-laws (namedLft 1 0 tt κs)) 𝓤 H A W .typed (a .0) _ (are .0) .0) (are .1 .0)))
 
 part-meets : {M : Type 1} (𝓤 : URA M) (H : Heap 𝓤) (A : Atoms 𝓤) (W : Given 𝓤 H A) (mem : Memory → SProp 𝓤) (run : Routine → Fun 𝓤) (𝓣 : Tables 𝓤 H)
     → Triple 𝓤 (𝓣 .C #part·held·read-entry) (ReadEntry 𝓤 H A mem run)
