@@ -9,7 +9,7 @@ use native.Mathlib.Omega.{arith}
 use lib.Dec.{eqb, leb}
 use lib.ListN.{length, getD}
 use borrow.Author.Tests.{not-true, not-false, leb-true, le-leb, eqb-true, eq-eqb, ne-eqb}
-use Rattle.base.specs.Lists.{all, bytesAt, tabulate}
+use Rattle.base.specs.Lists.{all, allFrom, bytesAt, tabulate}
 use Rattle.base.proofs.Lists.{both-true, getD-tabulate}
 use Rattle.base.proofs.Stores.{getD-bytes, bytes-all}
 use Rattle.meaning.specs.Sizes.{timeWidth, maxVariables, maxClocks, maxParts, maxValue}
@@ -19,18 +19,16 @@ use Rattle.meaning.specs.Record.{estimatePlace, startedPlace, startsPlace, mark
 use Rattle.meaning.specs.Cycle.{estimateAllowed}
 use Rattle.meaning.proofs.Tables.{table-held}
 use Rattle.record.proofs.Marks.{marks-inside}
-use Rattle.allowed.specs.Places.{allFrom, atMost, clockAt}
+use Rattle.allowed.specs.Places.{atMost, clockAt}
 
 -- the loop: what has passed so far, and what is left, are the whole
 module _ (f : ℕ → Bool) (i e : ℕ) where
   pub all-next : (a b x : Bool) → i < e → b ≡ f i → (a && allFrom f i (e - i)) ≡ x → ((a && b) && allFrom f (i + 1) (e - (i + 1))) ≡ x
-  unfolding allFrom
   all-next a b x h b-is inv =
       let k : e - i ≡ suc (e - (i + 1)) = omega arith in
       rw (b-is, add-one, and-assoc) (rw (k, add-one) at inv)
 
   pub all-ends : (a x : Bool) → e ≤ i → (a && allFrom f i (e - i)) ≡ x → a ≡ x
-  unfolding allFrom
   all-ends a x h inv =
       let k : e - i ≡ 0 = omega arith in
       rw (k, and-true) at inv
@@ -47,12 +45,12 @@ leb-zero b =
     (λ h. le-leb b 0 (omega (arith, eqb-true b 0 h)))
 
 at-most-bytes : (r : List ℕ) (most i n : ℕ) → allFrom (atMost r most) i n ≡ all (λ b. leb b most) (bytesAt r i n)
-unfolding allFrom atMost
+unfolding atMost
 at-most-bytes r most i zero = refl
 at-most-bytes r most i (suc n) = rw (at-most-bytes r most (suc i) n)
 
 pub zero-bytes : (r : List ℕ) (i n : ℕ) (b : Bool) → b ≡ allFrom (atMost r 0) i n → b ≡ all isZero (bytesAt r i n)
-unfolding allFrom atMost
+unfolding atMost
 zero-bytes r i n b e = e ∙ each i n
   where
     each : (i n : ℕ) → allFrom (atMost r 0) i n ≡ all isZero (bytesAt r i n)
@@ -114,7 +112,7 @@ pub clock-inside : (t : List ℕ) (c k : ℕ) → isTable t ≡ true → k ≡ c
 clock-inside t c k table k-is h = omega (arith, table-held t table .1 .within .clocks-fit)
 
 pub clocks-made : (t r : List ℕ) (k : ℕ) → k ≡ clocks t → allFrom (clockAt r) 0 (k - 0) ≡ clocksAllowed t r
-unfolding allFrom clocksAllowed
+unfolding clocksAllowed
 clocks-made t r k k-is = rw (sub-zero, k-is) (each 0 (clocks t) (omega arith))
   where
     each : (c n : ℕ) → c + n ≤ clocks t → allFrom (clockAt r) c n ≡ all (λ c. clockAllowed (lastTime r) (getD (startedIn t r) c 0) (getD (startsIn t r) c 0)) (tabulate (λ c. c) c n)

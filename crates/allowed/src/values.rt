@@ -19,12 +19,12 @@ ghost use mathlib.Core.Path.{_≡_};
 ghost use mathlib.Core.Bool.{true};
 ghost use Prim.Native.Nat.{_-_, _<_, _≤_};
 ghost use lib.ListN.{length};
-ghost use Rattle.base.specs.Lists.{all, bytesAt};
+ghost use Rattle.base.specs.Lists.{all, allFrom, bytesAt};
 ghost use Rattle.meaning.specs.Sizes.{maxClocks};
 ghost use Rattle.meaning.specs.Table.{isTable};
 ghost use Rattle.meaning.specs.Record.{recordLength, isZero, restZero, valuesAllowed, clocksAllowed};
 ghost use Rattle.meaning.specs.Cycle.{estimateAllowed};
-ghost use Rattle.allowed.specs.Places.{allFrom, atMost, clockAt};
+ghost use Rattle.allowed.specs.Places.{atMost, clockAt};
 
 // Whether the bytes from place `from` on, before place `to`, are at most `most`; there are none
 // where `to` is not beyond `from`. It looks at all of them even where one is larger, so that the

@@ -55,6 +55,11 @@ abbrev pub tabulate : {A : Type 0} → (ℕ → A) → ℕ → ℕ → List A
 tabulate f i zero = []
 tabulate f i (suc n) = f i ∷ tabulate f (suc i) n
 
+-- the n numbers from i on all pass
+abbrev pub allFrom : (ℕ → Bool) → ℕ → ℕ → Bool
+allFrom f i zero = true
+allFrom f i (suc n) = f i && allFrom f (suc i) n
+
 -- a truth as a byte
 abbrev pub flag : Bool → ℕ
 flag true = 1

@@ -52,8 +52,8 @@ fn examine_parts(s: &[u8]) -> Answer
     unfit(s)
 }
 
-// Which of the refusals 4 to 7 a file gets whose tree does not end at its last part. Each is decided
-// over all parts before the next, and no walk goes into bytes that form no tree.
+// Which of the refusals 4 to 7 a file gets whose walk does not end at its last part. Each is decided
+// over all parts before the next; what passes the first three can only be too deep.
 fn unfit(s: &[u8]) -> Answer
     requires { ⌜ lengthOf File (parts (now s)) ≤ length (now s) ⌝ }
     requires { ⌜ (partsEnd File (now s) anyEnd maxDepth 1 0 ≡ parts (now s) → ⊥) ⌝ }

@@ -4,21 +4,21 @@ use mathlib.Core.Path.{_≡_, sym}
 use mathlib.Core.Bool.{Bool, true, false}
 use native.Mathlib.Numerals.{add-one}
 use native.Mathlib.Omega.{arith}
-use Rattle.table.specs.Checking.{every}
+use Rattle.base.specs.Lists.{allFrom}
 
 -- what is left to test comes to the whole
 module _ (f : ℕ → Bool) (i n : ℕ) (whole : Bool) where
-  pub every-step : i < n → f i ≡ true → every f i (n - i) ≡ whole → every f (i + 1) (n - (i + 1)) ≡ whole
-  every-step h t inv =
+  pub all-step : i < n → f i ≡ true → allFrom f i (n - i) ≡ whole → allFrom f (i + 1) (n - (i + 1)) ≡ whole
+  all-step h t inv =
       let k : n - i ≡ suc (n - (i + 1)) = omega arith in
       rw (k, t, ← (add-one i)) at inv
 
-  pub every-fails : i < n → f i ≡ false → every f i (n - i) ≡ whole → whole ≡ false
-  every-fails h t inv =
+  pub all-fails : i < n → f i ≡ false → allFrom f i (n - i) ≡ whole → whole ≡ false
+  all-fails h t inv =
       let k : n - i ≡ suc (n - (i + 1)) = omega arith in
       sym (rw (k, t) at inv)
 
-  pub every-end : n ≤ i → every f i (n - i) ≡ whole → whole ≡ true
-  every-end h inv =
+  pub all-end : n ≤ i → allFrom f i (n - i) ≡ whole → whole ≡ true
+  all-end h inv =
       let k : n - i ≡ 0 = omega arith in
       sym (rw k at inv)

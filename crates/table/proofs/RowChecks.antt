@@ -10,7 +10,7 @@ use mathlib.Core.List.{List, [], _∷_}
 use lib.Dec.{eqb, ltb}
 use lib.ListN.{length, getD, drop}
 use borrow.Author.Tests.{not-true, not-false, eqb-true, eq-eqb, ne-eqb, ltb-true, ltb-false}
-use Rattle.base.specs.Lists.{same}
+use Rattle.base.specs.Lists.{allFrom, same}
 use Rattle.base.proofs.Lists.{and-left, and-right}
 use Rattle.base.proofs.Stores.{bytes-all}
 use Rattle.meaning.specs.declared.Entry.{Entry}
@@ -27,9 +27,9 @@ use Rattle.meaning.proofs.Nesting.{Inside}
 use Rattle.part.specs.Held.{Held}
 use Rattle.walk.proofs.Entries.{entries-at}
 use Rattle.table.specs.declared.checking.Links.{Links}
-use Rattle.table.specs.Checking.{every, Ending, Settled, linksIn, rowByte, byteIs, rowIs, rowsAre}
-use Rattle.table.proofs.Matches.{every-step, every-fails, every-end}
-use Rattle.table.proofs.TableRows.{every-same}
+use Rattle.table.specs.Checking.{Ending, ParentsAgree, linksIn, rowByte, byteIs, rowIs, rowsAre}
+use Rattle.table.proofs.Matches.{all-step, all-fails, all-end}
+use Rattle.table.proofs.TableRows.{all-same}
 use Rattle.table.proofs.Around.{parent-before, within-first, within-up, within-found, next-implied}
 
 -- The table that is implied: it is one, and holds the entries that t holds
@@ -69,24 +69,24 @@ pub record Climbing (t : List ℕ) (p q : ℕ) : Type 0 where
   pub before : q < p
   pub within : (parentAt (compiled Table t) p ≡ q) ⊎ Inside (compiled Table t) (parentAt (compiled Table t) p) q
 
-module _ (t : List ℕ) (p : ℕ) (first : 0 < p) (there : p < parts t) (settled : Settled t p) where
+module _ (t : List ℕ) (p : ℕ) (first : 0 < p) (there : p < parts t) (agreeing : ParentsAgree t p) where
   table : isTable (compiled Table t) ≡ true
-  table = whole-table t (settled .ending)
+  table = whole-table t (agreeing .ending)
 
   inside : p < parts (compiled Table t)
-  inside = omega (arith, same-parts t (settled .ending))
+  inside = omega (arith, same-parts t (agreeing .ending))
 
   pub climb-first : Climbing t p (p - 1)
   climb-first = record { before = omega arith; within = within-first (compiled Table t) table p first inside }
 
   module _ (q e : ℕ) (w : Climbing t p q) (e-is : e ≡ endAt t q) where
     end-is : e ≡ endAt (compiled Table t) q
-    end-is = e-is ∙ settled .ending .ends q (omega (arith, w .before))
+    end-is = e-is ∙ agreeing .ending .ends q (omega (arith, w .before))
 
     pub climb-up : (r : ℕ) → r ≡ parentAt t q → e ≤ p → Climbing t p r × (r < q)
     climb-up r r-is h =
         let u = within-up (compiled Table t) table p first inside q (w .before) (w .within) (omega (arith, end-is)) in
-        let same : parentAt (compiled Table t) q ≡ r = sym (r-is ∙ settled .parents q (w .before)) in
+        let same : parentAt (compiled Table t) q ≡ r = sym (r-is ∙ agreeing .parents q (w .before)) in
         let up : Climbing t p (parentAt (compiled Table t) q) × (parentAt (compiled Table t) q < q) = (record { before = omega (arith, u .1, w .before); within = u .0 }, u .1) in
         rw same at up
 
@@ -94,23 +94,23 @@ module _ (t : List ℕ) (p : ℕ) (first : 0 < p) (there : p < parts t) (settled
     climb-found h = within-found (compiled Table t) table p first inside q (w .before) (w .within) (omega (arith, end-is))
 
 -- The part around p can be read
-pub parent-held : (t : List ℕ) (p : ℕ) → Settled t p → Held Table t p → 0 < p → (q : ℕ) → q ≡ parentAt (compiled Table t) p → Held Table t q
-parent-held t p settled h some q q-is =
-    let inside : p < parts (compiled Table t) = omega (arith, h .there, same-parts t (settled .ending)) in
-    let before : q < p = omega (arith, q-is, parent-before (compiled Table t) (whole-table t (settled .ending)) p some inside) in
+pub parent-held : (t : List ℕ) (p : ℕ) → ParentsAgree t p → Held Table t p → 0 < p → (q : ℕ) → q ≡ parentAt (compiled Table t) p → Held Table t q
+parent-held t p agreeing h some q q-is =
+    let inside : p < parts (compiled Table t) = omega (arith, h .there, same-parts t (agreeing .ending)) in
+    let before : q < p = omega (arith, q-is, parent-before (compiled Table t) (whole-table t (agreeing .ending)) p some inside) in
     record { long = h .long; there = omega (arith, h .there) }
 
 -- The links of a row
-module _ (t : List ℕ) (p : ℕ) (settled : Settled t p) (e : ℕ) (e-is : e ≡ endAt t p) where
+module _ (t : List ℕ) (p : ℕ) (agreeing : ParentsAgree t p) (e : ℕ) (e-is : e ≡ endAt t p) where
   pub part-links : p < parts t → 0 < p → (q x n : ℕ) (around : Entry) → q ≡ parentAt (compiled Table t) p → around ≡ entryAt Table t q → x ≡ endAt t q → n ≡ nextOf (kindOf (around .kind)) p e (ltb e x)
       → record { end = e; parent = q; next = n } ≡ linksIn (compiled Table t) p
   part-links there some q x n around q-is around-is x-is n-is =
-      let table : isTable (compiled Table t) ≡ true = whole-table t (settled .ending) in
-      let inside : p < parts (compiled Table t) = omega (arith, same-parts t (settled .ending)) in
+      let table : isTable (compiled Table t) ≡ true = whole-table t (agreeing .ending) in
+      let inside : p < parts (compiled Table t) = omega (arith, same-parts t (agreeing .ending)) in
       let below : q < p = omega (arith, q-is, parent-before (compiled Table t) table p some inside) in
-      let end-is : e ≡ endAt (compiled Table t) p = e-is ∙ settled .ending .ends p there in
-      let stop-is : x ≡ endAt (compiled Table t) q = x-is ∙ settled .ending .ends q (omega arith) in
-      let kind-is : kindOf (around .kind) ≡ kindAt (compiled Table t) q = ap (λ (a : Entry). kindOf (a .kind)) (around-is ∙ sym (same-entry t (settled .ending) q (omega arith))) in
+      let end-is : e ≡ endAt (compiled Table t) p = e-is ∙ agreeing .ending .ends p there in
+      let stop-is : x ≡ endAt (compiled Table t) q = x-is ∙ agreeing .ending .ends q (omega arith) in
+      let kind-is : kindOf (around .kind) ≡ kindAt (compiled Table t) q = ap (λ (a : Entry). kindOf (a .kind)) (around-is ∙ sym (same-entry t (agreeing .ending) q (omega arith))) in
       let next-is : n ≡ nextAt (compiled Table t) p = n-is ∙ rw (kind-is, stop-is, end-is, q-is) (sym (next-implied (compiled Table t) table p some inside)) in
       λ i. record { end = end-is i; parent = q-is i; next = next-is i }
 
@@ -159,47 +159,47 @@ module _ (t : List ℕ) (p j w b : ℕ) (w-is : w ≡ p) (b-is : b ≡ rowByte (
   pub byte-differs : (b ≡ getD t (headerLength + rowLength * w + j) 0 → ⊥) → byteIs t p j ≡ false
   byte-differs h = byte-compared ∙ ne-eqb b (getD t (headerLength + rowLength * w + j) 0) h
 
-pub row-first : (t : List ℕ) (p : ℕ) → every (byteIs t p) 0 (rowLength - 0) ≡ rowIs t p
+pub row-first : (t : List ℕ) (p : ℕ) → allFrom (byteIs t p) 0 (rowLength - 0) ≡ rowIs t p
 unfolding rowIs
 row-first t p = refl
 
 -- The loop over the rows: those before p are the ones implied, and those from p on decide
 pub record Comparing (t : List ℕ) (n p : ℕ) : Type 0 where
-  pub settled : Settled t p
-  pub left : every (rowIs t) p (n - p) ≡ rowsAre t
+  pub agreeing : ParentsAgree t p
+  pub left : allFrom (rowIs t) p (n - p) ≡ rowsAre t
 
 module _ (t : List ℕ) (n : ℕ) (n-is : n ≡ parts t) where
   rows-none : Ending t → Comparing t n 0
   unfolding rowsAre
-  rows-none ending = record { settled = record { ending = ending; parents = λ q h. absurd (omega arith) }; left = let all-left : n - 0 ≡ parts t = omega (arith, n-is) in rw all-left }
+  rows-none ending = record { agreeing = record { ending = ending; parents = λ q h. absurd (omega arith) }; left = let all-left : n - 0 ≡ parts t = omega (arith, n-is) in rw all-left }
 
   module _ (p : ℕ) (w : Comparing t n p) where
     parent-same : rowIs t p ≡ true → parentAt t p ≡ parentAt (compiled Table t) p
     unfolding rowIs byteIs
     parent-same h =
-        let second = and-right (byteIs t p 0) (every (byteIs t p) 1 7) h in
-        let third = and-right (byteIs t p 1) (every (byteIs t p) 2 6) second in
-        sym (eqb-true (rowByte (compiled Table t) p 2) (rowByte t p 2) (and-left (byteIs t p 2) (every (byteIs t p) 3 5) third))
+        let second = and-right (byteIs t p 0) (allFrom (byteIs t p) 1 7) h in
+        let third = and-right (byteIs t p 1) (allFrom (byteIs t p) 2 6) second in
+        sym (eqb-true (rowByte (compiled Table t) p 2) (rowByte t p 2) (and-left (byteIs t p 2) (allFrom (byteIs t p) 3 5) third))
 
     pub rows-next : p < n → rowIs t p ≡ true → Comparing t n (p + 1)
     rows-next h r =
         record {
-          settled = record {
-            ending = w .settled .ending;
+          agreeing = record {
+            ending = w .agreeing .ending;
             parents = λ q l. go q l (ltb q p) refl;
           };
-          left = every-step (rowIs t) p n (rowsAre t) h r (w .left);
+          left = all-step (rowIs t) p n (rowsAre t) h r (w .left);
         }
       where
         go : (q : ℕ) → q < p + 1 → (b : Bool) → ltb q p ≡ b → parentAt t q ≡ parentAt (compiled Table t) q
-        go q l true e = w .settled .parents q (ltb-true q p e)
+        go q l true e = w .agreeing .parents q (ltb-true q p e)
         go q l false e = let same : p ≡ q = omega (arith, ltb-false q p e) in rw (← same) (parent-same r)
 
     pub rows-differ : p < n → rowIs t p ≡ false → false ≡ rowsAre t
-    rows-differ h r = sym (every-fails (rowIs t) p n (rowsAre t) h r (w .left))
+    rows-differ h r = sym (all-fails (rowIs t) p n (rowsAre t) h r (w .left))
 
     pub rows-end : n ≤ p → true ≡ rowsAre t
-    rows-end h = sym (every-end (rowIs t) p n (rowsAre t) h (w .left))
+    rows-end h = sym (all-end (rowIs t) p n (rowsAre t) h (w .left))
 
   -- the root's row comes first
   module _ (ending : Ending t) (some : 0 < parts t) (r : Bool) (r-is : r ≡ rowIs t 0) where
@@ -238,52 +238,52 @@ module _ (t : List ℕ) (ending : Ending t) (some : 0 < parts t) where
       (ap (λ (b : Bool). eqb noPart (parentAt t 0) && b) (sym (and-true (eqb noPart (nextAt t 0)))))
 
 -- All rows together are all bytes but the sizes, which are the same
-every-append : (f : ℕ → Bool) (i m n : ℕ) → every f i (m + n) ≡ (every f i m && every f (i + m) n)
-every-append f i zero n = rw (zero-add, add-zero)
-every-append f i (suc m) n =
+all-append : (f : ℕ → Bool) (i m n : ℕ) → allFrom f i (m + n) ≡ (allFrom f i m && allFrom f (i + m) n)
+all-append f i zero n = rw (zero-add, add-zero)
+all-append f i (suc m) n =
     let k : suc m + n ≡ suc (m + n) = omega arith in
     let j : i + suc m ≡ suc i + m = omega arith in
-    rw (k, j, every-append f (suc i) m n) (and-assoc (f i) (every f (suc i) m) (every f (suc i + m) n))
+    rw (k, j, all-append f (suc i) m n) (and-assoc (f i) (allFrom f (suc i) m) (allFrom f (suc i + m) n))
   where
     and-assoc : (a b c : Bool) → (a && (b && c)) ≡ ((a && b) && c)
     and-assoc true b c = refl
     and-assoc false b c = refl
 
-every-shift : (f g : ℕ → Bool) (a : ℕ) → ((j : ℕ) → g j ≡ f (a + j)) → (i n : ℕ) → every g i n ≡ every f (a + i) n
-every-shift f g a h i zero = refl
-every-shift f g a h i (suc n) = let k : a + suc i ≡ suc (a + i) = omega arith in rw (h i, every-shift f g a h (suc i) n, k)
+all-shift : (f g : ℕ → Bool) (a : ℕ) → ((j : ℕ) → g j ≡ f (a + j)) → (i n : ℕ) → allFrom g i n ≡ allFrom f (a + i) n
+all-shift f g a h i zero = refl
+all-shift f g a h i (suc n) = let k : a + suc i ≡ suc (a + i) = omega arith in rw (h i, all-shift f g a h (suc i) n, k)
 
-every-rows : (f g : ℕ → Bool) → ((p : ℕ) → g p ≡ every f (headerLength + rowLength * p) rowLength) → (p n : ℕ) → every g p n ≡ every f (headerLength + rowLength * p) (rowLength * n)
-every-rows f g h p zero = refl
-every-rows f g h p (suc n) =
+all-rows : (f g : ℕ → Bool) → ((p : ℕ) → g p ≡ allFrom f (headerLength + rowLength * p) rowLength) → (p n : ℕ) → allFrom g p n ≡ allFrom f (headerLength + rowLength * p) (rowLength * n)
+all-rows f g h p zero = refl
+all-rows f g h p (suc n) =
     let k : rowLength * suc n ≡ rowLength + rowLength * n = omega arith in
     let j : headerLength + rowLength * suc p ≡ headerLength + rowLength * p + rowLength = omega arith in
-    rw (k, every-append f (headerLength + rowLength * p) rowLength (rowLength * n), ← j, h p, every-rows f g h (suc p) n)
+    rw (k, all-append f (headerLength + rowLength * p) rowLength (rowLength * n), ← j, h p, all-rows f g h (suc p) n)
 
 module _ (t : List ℕ) (ending : Ending t) where
   is : ℕ → Bool
   is i = eqb (getD (compiled Table t) i 0) (getD t i 0)
 
-  row-is : (p : ℕ) → rowIs t p ≡ every is (headerLength + rowLength * p) rowLength
+  row-is : (p : ℕ) → rowIs t p ≡ allFrom is (headerLength + rowLength * p) rowLength
   unfolding rowIs byteIs is
-  row-is p = every-shift is (byteIs t p) (headerLength + rowLength * p) (λ j. refl) 0 rowLength ∙ ap (λ (i : ℕ). every is i rowLength) (add-zero (headerLength + rowLength * p))
+  row-is p = all-shift is (byteIs t p) (headerLength + rowLength * p) (λ j. refl) 0 rowLength ∙ ap (λ (i : ℕ). allFrom is i rowLength) (add-zero (headerLength + rowLength * p))
 
-  sizes-same : every is 0 headerLength ≡ true
+  sizes-same : allFrom is 0 headerLength ≡ true
   unfolding is
   sizes-same =
       let v : variables (compiled Table t) ≡ variables t = ap variables (sym (whole-is t ending)) ∙ table-accepted (variables t) (clocks t) (part t ending) (held t ending .within) .2 in
       let k : clocks (compiled Table t) ≡ clocks t = ap clocks (sym (whole-is t ending)) ∙ table-accepted (variables t) (clocks t) (part t ending) (held t ending .within) .3 in
       rw (eq-eqb (parts (compiled Table t)) (parts t) (same-parts t ending), eq-eqb (variables (compiled Table t)) (variables t) v, eq-eqb (clocks (compiled Table t)) (clocks t) k)
 
-  same-is : same (compiled Table t) t ≡ every is 0 (length t)
+  same-is : same (compiled Table t) t ≡ allFrom is 0 (length t)
   unfolding is
   same-is =
       let long : length (compiled Table t) ≡ length t = omega (arith, whole-holds t ending .length-is, held t ending .length-is, same-parts t ending) in
       let left : bytesAt (compiled Table t) 0 (length t) ≡ compiled Table t = rw long at (bytes-all (compiled Table t)) in
-      sym (every-same is (compiled Table t) t 0 (λ j. rw zero-add) 0 (length t) ∙ rw (left, bytes-all t))
+      sym (all-same is (compiled Table t) t 0 (λ j. rw zero-add) 0 (length t) ∙ rw (left, bytes-all t))
 
   pub rows-same : rowsAre t ≡ same (compiled Table t) t
   unfolding rowsAre
   rows-same =
-      every-rows is (rowIs t) row-is 0 (parts t)
-      ∙ sym (same-is ∙ rw (held t ending .length-is, every-append is 0 headerLength (rowLength * parts t), sizes-same))
+      all-rows is (rowIs t) row-is 0 (parts t)
+      ∙ sym (same-is ∙ rw (held t ending .length-is, all-append is 0 headerLength (rowLength * parts t), sizes-same))

@@ -6,7 +6,7 @@ use mathlib.Core.List.{List, [], _∷_, _++_, map}
 use native.Mathlib.Nat.{add-suc}
 use lib.Dec.{eqb}
 use lib.ListN.{getD}
-use Rattle.base.specs.Lists.{flat, same}
+use Rattle.base.specs.Lists.{allFrom, flat, same}
 use Rattle.meaning.specs.declared.Entry.{Entry}
 use Rattle.meaning.specs.declared.Form.the-variants.{File}
 use Rattle.meaning.specs.Sizes.{bytesAt}
@@ -14,7 +14,6 @@ use Rattle.meaning.specs.Program.{operandBytes, entryAt, entriesFrom}
 use Rattle.meaning.specs.Table.{Row, linkBytes, rowBytes}
 use Rattle.meaning.proofs.Tables.{rowEntry}
 use Rattle.walk.specs.Walk.{heldRows}
-use Rattle.table.specs.Checking.{every}
 
 pub held-rows : (s : List ℕ) (rows : List Row) (q n : ℕ) → map rowEntry rows ≡ entriesFrom File s q n → heldRows s q rows ≡ flat rowBytes rows
 unfolding heldRows entriesFrom
@@ -26,6 +25,6 @@ held-rows s (r ∷ rs) q (suc n) d =
     let later : map rowEntry rs ≡ entriesFrom File s (suc q) n = cc in
     ap₂ (λ (a b : List ℕ). a ++ b) (ap (λ (x : Entry). x .kind ∷ (linkBytes r ++ operandBytes (x .operand))) (sym first)) (held-rows s rs (suc q) n later)
 
-pub every-same : (f : ℕ → Bool) (xs t : List ℕ) (k : ℕ) → ((j : ℕ) → f j ≡ eqb (getD xs j 0) (getD t (k + j) 0)) → (i n : ℕ) → every f i n ≡ same (bytesAt xs i n) (bytesAt t (k + i) n)
-every-same f xs t k h i zero = refl
-every-same f xs t k h i (suc n) = rw (h i, every-same f xs t k h (suc i) n, add-suc k i)
+pub all-same : (f : ℕ → Bool) (xs t : List ℕ) (k : ℕ) → ((j : ℕ) → f j ≡ eqb (getD xs j 0) (getD t (k + j) 0)) → (i n : ℕ) → allFrom f i n ≡ same (bytesAt xs i n) (bytesAt t (k + i) n)
+all-same f xs t k h i zero = refl
+all-same f xs t k h i (suc n) = rw (h i, all-same f xs t k h (suc i) n, add-suc k i)

@@ -1,19 +1,16 @@
 -- What the check of a table finds. The table that the kinds and operands in t imply is `compiled Table t`.
-use Prim.Native.Nat.{ℕ, zero, suc, _+_, _*_, _<_}
+use Prim.Native.Nat.{ℕ, _+_, _*_, _<_}
 use mathlib.Core.Path.{_≡_}
-use mathlib.Core.Bool.{Bool, true, _&&_}
+use mathlib.Core.Bool.{Bool}
 use mathlib.Core.List.{List}
 use lib.Dec.{eqb}
 use lib.ListN.{getD}
+use Rattle.base.specs.Lists.{allFrom}
 use Rattle.meaning.specs.Sizes.{headerLength, rowLength}
 use Rattle.meaning.specs.Program.{parts, programRefusal}
 use Rattle.meaning.specs.Table.{compiled, endAt, parentAt, nextAt}
 use Rattle.meaning.specs.declared.Form.the-variants.{Table}
 use Rattle.table.specs.declared.checking.Links.{Links}
-
-abbrev pub every : (ℕ → Bool) → ℕ → ℕ → Bool
-every f i zero = true
-every f i (suc n) = f i && every f (suc i) n
 
 -- a row says where its part ends
 unfoldable pub endHeld : List ℕ → ℕ → ℕ → Bool
@@ -25,7 +22,7 @@ pub record Ending (t : List ℕ) : Type 0 where
   pub ends : (p : ℕ) → p < parts t → endAt t p ≡ endAt (compiled Table t) p
 
 -- and the parents in the rows before p are those implied
-pub record Settled (t : List ℕ) (p : ℕ) : Type 0 where
+pub record ParentsAgree (t : List ℕ) (p : ℕ) : Type 0 where
   pub ending : Ending t
   pub parents : (q : ℕ) → q < p → parentAt t q ≡ parentAt (compiled Table t) q
 
@@ -41,8 +38,8 @@ unfoldable pub byteIs : List ℕ → ℕ → ℕ → Bool
 byteIs t p j = eqb (rowByte (compiled Table t) p j) (rowByte t p j)
 
 unfoldable pub rowIs : List ℕ → ℕ → Bool
-rowIs t p = every (byteIs t p) 0 rowLength
+rowIs t p = allFrom (byteIs t p) 0 rowLength
 
 -- every row is the one implied
 unfoldable pub rowsAre : List ℕ → Bool
-rowsAre t = every (rowIs t) 0 (parts t)
+rowsAre t = allFrom (rowIs t) 0 (parts t)

@@ -26,7 +26,7 @@ ghost use Rattle.meaning.specs.Program.{parts};
 ghost use Rattle.meaning.specs.Table.{compiled, parentAt};
 ghost use Rattle.part.specs.Held.{Held};
 ghost use Rattle.walk.specs.Walk.{partsEnd};
-ghost use Rattle.table.specs.Checking.{endHeld, Ending, Settled, linksIn, rowByte, rowIs, rowsAre};
+ghost use Rattle.table.specs.Checking.{endHeld, Ending, ParentsAgree, linksIn, rowByte, rowIs, rowsAre};
 
 // Where `count` parts end that stand one after the other from number p on, 0 where they do not stand
 // there, one is not allowed or stands in more than `levels` levels, or its row says another end. The
@@ -79,7 +79,7 @@ pub struct Links {
 fn parent_of(t: &[u8], p: Number) -> Number
     requires { ⌜ Held Table (now t) p ⌝ }
     requires { ⌜ 0 < p ⌝ }
-    requires { ⌜ Settled (now t) p ⌝ }
+    requires { ⌜ ParentsAgree (now t) p ⌝ }
     ensures { λ q. ⌜ q ≡ parentAt (compiled Table (now (t .entry))) p ⌝ }
 {
     let mut q = p - 1;
@@ -93,7 +93,7 @@ fn parent_of(t: &[u8], p: Number) -> Number
 fn links_of(t: &[u8], p: Number) -> Links
     requires { ⌜ Held Table (now t) p ⌝ }
     requires { ⌜ 0 < p ⌝ }
-    requires { ⌜ Settled (now t) p ⌝ }
+    requires { ⌜ ParentsAgree (now t) p ⌝ }
     ensures { λ l. ⌜ l ≡ linksIn (compiled Table (now (t .entry))) p ⌝ }
 {
     let end = end_at(t, p);

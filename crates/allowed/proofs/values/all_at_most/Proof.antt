@@ -3,7 +3,8 @@ use Prim.Native.Nat.{_-_}
 use mathlib.Core.Path.{_≡_, refl}
 use mathlib.Core.Bool.{_&&_}
 use borrow.Author.Needs.{needs}
-use Rattle.allowed.specs.Places.{allFrom, atMost}
+use Rattle.base.specs.Lists.{allFrom}
+use Rattle.allowed.specs.Places.{atMost}
 use Rattle.allowed.proofs.Places.{byte-next, all-ends}
 use Rattle.allowed.proofs.values.all_at_most.Statement.{statement}
 use Rattle.allowed.proofs.values.all_at_most.Tie as tie

@@ -4,7 +4,8 @@ use mathlib.Core.Path.{_≡_}
 use mathlib.Core.Bool.{_&&_}
 use borrow.Author.Needs.{needs}
 use Rattle.meaning.specs.Record.{clocksAllowed}
-use Rattle.allowed.specs.Places.{allFrom, clockAt}
+use Rattle.base.specs.Lists.{allFrom}
+use Rattle.allowed.specs.Places.{clockAt}
 use Rattle.allowed.proofs.Places.{all-next, all-ends, clock-inside, clocks-made}
 use Rattle.allowed.proofs.values.clocks_allowed.Statement.{statement}
 use Rattle.allowed.proofs.values.clocks_allowed.Tie as tie

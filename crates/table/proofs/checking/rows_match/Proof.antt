@@ -5,14 +5,15 @@ use mathlib.Core.Path.{_≡_, refl, sym, _∙_}
 use mathlib.Core.Bool.{true}
 use borrow.Author.Needs.{needs}
 use Rattle.meaning.specs.Sizes.{rowLength}
-use Rattle.table.specs.Checking.{every, byteIs, rowIs}
-use Rattle.table.proofs.Matches.{every-step, every-fails, every-end}
+use Rattle.base.specs.Lists.{allFrom}
+use Rattle.table.specs.Checking.{byteIs, rowIs}
+use Rattle.table.proofs.Matches.{all-step, all-fails, all-end}
 use Rattle.table.proofs.RowChecks.{row-first, byte-agrees, byte-differs, Comparing, rows-first, root-differs, rows-next, rows-differ, rows-end}
 use Rattle.table.proofs.checking.rows_match.Statement.{statement}
 use Rattle.table.proofs.checking.rows_match.Tie as tie
 
 abbrev Inv-loop : tie.InvT-loop
-Inv-loop t matches₀ p links start j₀ p-end matches j = (matches ≡ true) × (every (byteIs t p) j (rowLength - j) ≡ rowIs t p)
+Inv-loop t matches₀ p links start j₀ p-end matches j = (matches ≡ true) × (allFrom (byteIs t p) j (rowLength - j) ≡ rowIs t p)
 
 abbrev μ-loop : tie.MeasureT-loop
 μ-loop t matches₀ p links start j₀ p-end matches j = rowLength - j
@@ -37,7 +38,7 @@ rows-holds c =
 links-of-requires : tie.Need-links-of-requires Inv-loop μ-loop Inv-rows μ-rows
 links-of-requires c κs =
     let rows = c .before in
-    (record { long = rows .before .before .before .before .before .pre .0 .long; there = omega (arith, c .rows-test .taken, rows .before .parts .ensures) }, (rows .rows .inv .1 .0, rows .rows .inv .1 .1 .settled))
+    (record { long = rows .before .before .before .before .before .pre .0 .long; there = omega (arith, c .rows-test .taken, rows .before .parts .ensures) }, (rows .rows .inv .1 .0, rows .rows .inv .1 .1 .agreeing))
 
 wide-requires : tie.Need-wide-requires Inv-loop μ-loop Inv-rows μ-rows
 wide-requires c κs = search needs
@@ -55,7 +56,7 @@ implied-requires : tie.Need-implied-requires Inv-loop μ-loop Inv-rows μ-rows
 implied-requires c κs =
     let turn = c .before .before .before .before in
     let rows = turn .before in
-    (record { long = rows .before .before .before .before .before .pre .0 .long; there = omega (arith, turn .rows-test .taken, rows .before .parts .ensures) }, (rows .rows .inv .1 .1 .settled .ending, (c .before .before .before .links-of .ensures, c .loop-test .taken)))
+    (record { long = rows .before .before .before .before .before .pre .0 .long; there = omega (arith, turn .rows-test .taken, rows .before .parts .ensures) }, (rows .rows .inv .1 .1 .agreeing .ending, (c .before .before .before .links-of .ensures, c .loop-test .taken)))
 
 add-if2 : tie.Need-add-if2 Inv-loop μ-loop Inv-rows μ-rows
 add-if2 c = search needs
@@ -75,7 +76,7 @@ loop-less c = search needs
 loop-again : tie.Need-loop-again Inv-loop μ-loop Inv-rows μ-rows
 loop-again c =
     let byte = c .before .before .before in
-    (byte .before .loop .inv .0, every-step _ _ _ _ (byte .loop-test .taken) (byte-agrees _ _ _ _ _ (byte .before .before .wide .ensures) (c .before .before .implied .ensures) (c .if2 .left)) (byte .before .loop .inv .1))
+    (byte .before .loop .inv .0, all-step _ _ _ _ (byte .loop-test .taken) (byte-agrees _ _ _ _ _ (byte .before .before .wide .ensures) (c .before .before .implied .ensures) (c .if2 .left)) (byte .before .loop .inv .1))
 
 add-p : tie.Need-add-p Inv-loop μ-loop Inv-rows μ-rows
 add-p c = search needs
@@ -86,7 +87,7 @@ rows-less c = search needs
 rows-again : tie.Need-rows-again Inv-loop μ-loop Inv-rows μ-rows
 rows-again c =
     let turn = c .before .before .before .before in
-    (c .before .loop .inv .0, (omega (arith, turn .before .rows .inv .1 .0), rows-next _ _ (turn .before .before .parts .ensures) _ (turn .before .rows .inv .1 .1) (turn .rows-test .taken) (every-end _ _ _ _ (c .loop-test .left) (c .before .loop .inv .1))))
+    (c .before .loop .inv .0, (omega (arith, turn .before .rows .inv .1 .0), rows-next _ _ (turn .before .before .parts .ensures) _ (turn .before .rows .inv .1 .1) (turn .rows-test .taken) (all-end _ _ _ _ (c .loop-test .left) (c .before .loop .inv .1))))
 
 returns : tie.Need-returns Inv-loop μ-loop Inv-rows μ-rows
 returns c = let pre = c .before .before .before .pre in root-differs _ _ refl (pre .1) (pre .0 .there) _ (c .before .root-matches .ensures) (c .if1 .taken)
@@ -99,7 +100,7 @@ returns-3 c =
     let byte = c .before .before .before in
     let turn = byte .before .before .before .before in
     rows-differ _ _ (turn .before .before .parts .ensures) _ (turn .before .rows .inv .1 .1) (turn .rows-test .taken)
-    (every-fails _ _ _ _ (byte .loop-test .taken) (byte-differs _ _ _ _ _ (byte .before .before .wide .ensures) (c .before .before .implied .ensures) (c .if2 .taken)) (byte .before .loop .inv .1))
+    (all-fails _ _ _ _ (byte .loop-test .taken) (byte-differs _ _ _ _ _ (byte .before .before .wide .ensures) (c .before .before .implied .ensures) (c .if2 .taken)) (byte .before .loop .inv .1))
 
 pub rows-match-spec : {M : Type 1} → statement M
 rows-match-spec =
