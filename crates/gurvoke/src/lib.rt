@@ -1,13 +1,13 @@
 // The C interface: the exported functions alone, each a call of the crate that does the work.
 // include/gurvoke.h documents them.
-use begin::begin;
 use meaning::answer_number;
 use meaning::offer_number;
 use meaning::settle_number;
-use offer::offer;
-use settle::settle;
-use table::compile;
-use table::decompile;
+use program_table::compile;
+use program_table::decompile;
+use run_begin::begin;
+use run_offer::offer;
+use run_settle::settle;
 ghost use mathlib.Core.Path.{_≡_};
 ghost use lib.ListN.{length};
 ghost use Rattle.meaning.specs.Table.{writeRefusal, writtenInto};

@@ -14,15 +14,15 @@ use Rattle.base.specs.Lists.{all, flat, bytesAt}
 use Rattle.base.proofs.Lists.{and-left, and-right, all-append, flat-append}
 use Rattle.base.proofs.Stores.{length-bytes, getD-bytes, drop-bytes, bytes-sets}
 use Rattle.meaning.proofs.Files.{bytes-append}
-use Rattle.words.specs.Words.{isOther, leading}
-use Rattle.words.specs.Places.{place}
-use Rattle.words.proofs.Leading.{leading-few, leading-passes, leading-stops}
-use Rattle.conduct.specs.Making.{endsRun}
-use Rattle.rehearsal.specs.Rehearsal.{heard, maxLine}
-use Rattle.input.specs.declared.Piece.{Piece}
-use Rattle.input.specs.declared.Piece.the-variants.{Held}
-use Rattle.input.specs.Reading.{Reads}
-use Rattle.input.proofs.Brought.{read-inside}
+use Rattle.desk_parse.specs.Words.{isOther, leading}
+use Rattle.desk_parse.specs.Places.{place}
+use Rattle.desk_parse.proofs.Leading.{leading-few, leading-passes, leading-stops}
+use Rattle.desk_dispatch.specs.Making.{endsRun}
+use Rattle.desk_rehearsal.specs.Rehearsal.{heard, maxLine}
+use Rattle.desk_input.specs.declared.Piece.{Piece}
+use Rattle.desk_input.specs.declared.Piece.the-variants.{Held}
+use Rattle.desk_input.specs.Reading.{Reads}
+use Rattle.desk_input.proofs.Brought.{read-inside}
 use Rattle.rehearse.specs.declared.lines.Stand.{Stand}
 use Rattle.rehearse.specs.Standing.{moved, upTo, nextEnd, Goes, ReadsOn, Takes, Ran}
 use Rattle.rehearse.specs.Standing as standing

@@ -8,18 +8,18 @@ use mathlib.Core.Logic.{inl, inr}
 use lib.ListN.{length, take}
 use lib.Seq.{length-sets}
 use Rattle.base.specs.Lists.{bytesAt}
-use Rattle.words.proofs.Leading.{place-within}
-use Rattle.calls.specs.Places.{lineEnd}
-use Rattle.conduct.specs.declared.Turn.{Turn}
-use Rattle.conduct.specs.Counting.{more}
-use Rattle.rehearsal.specs.Rehearsal.{Answered}
-use Rattle.input.specs.declared.Piece.{Piece}
-use Rattle.input.specs.declared.Piece.the-variants.{Failed, Held}
+use Rattle.desk_parse.proofs.Leading.{place-within}
+use Rattle.desk_calls.specs.Places.{lineEnd}
+use Rattle.desk_dispatch.specs.declared.Turn.{Turn}
+use Rattle.desk_dispatch.specs.Counting.{more}
+use Rattle.desk_rehearsal.specs.Rehearsal.{Answered}
+use Rattle.desk_input.specs.declared.Piece.{Piece}
+use Rattle.desk_input.specs.declared.Piece.the-variants.{Failed, Held}
 use Rattle.rehearse.specs.declared.lines.Stand.{Stand}
-use Rattle.input.specs.Reading.{Reads}
+use Rattle.desk_input.specs.Reading.{Reads}
 use Rattle.rehearse.specs.Standing.{moved, nextEnd, upTo, readTo, afterLast, Goes, ReadsOn, Takes, Ran, Runs, maxTurns}
 use Rattle.rehearse.specs.Standing as standing
-use Rattle.input.proofs.Brought.{read-inside}
+use Rattle.desk_input.proofs.Brought.{read-inside}
 
 pub line-held : (l : List ℕ) (from to i : ℕ) → i ≡ lineEnd l from to → from ≤ to → from ≤ i
 line-held l from to i e h = rw e (place-within 10 l from to h .0)

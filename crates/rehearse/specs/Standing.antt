@@ -7,13 +7,13 @@ use mathlib.Core.Logic.{_⊎_}
 use lib.ListN.{length, take, drop}
 use lib.Seq.{sets}
 use Rattle.base.specs.Lists.{bytesAt}
-use Rattle.calls.specs.Places.{lineEnd}
-use Rattle.conduct.specs.declared.Turn.{Turn}
-use Rattle.conduct.specs.Counting.{more}
-use Rattle.rehearsal.specs.Rehearsal.{Answered}
-use Rattle.input.specs.declared.Piece.the-variants.{Failed, Held}
+use Rattle.desk_calls.specs.Places.{lineEnd}
+use Rattle.desk_dispatch.specs.declared.Turn.{Turn}
+use Rattle.desk_dispatch.specs.Counting.{more}
+use Rattle.desk_rehearsal.specs.Rehearsal.{Answered}
+use Rattle.desk_input.specs.declared.Piece.the-variants.{Failed, Held}
 use Rattle.rehearse.specs.declared.lines.Stand.{Stand}
-use Rattle.input.specs.Reading.{Reads}
+use Rattle.desk_input.specs.Reading.{Reads}
 
 -- before anything is read
 abbrev pub starting : Stand

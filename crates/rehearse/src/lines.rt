@@ -1,17 +1,17 @@
 // The calls on standard input, line by line.
-use calls::pieces::line_end;
-use calls::pieces::shift;
-use conduct::counting::one_more;
-use input::Piece;
-use input::read_piece;
+use desk_calls::pieces::line_end;
+use desk_calls::pieces::shift;
+use desk_dispatch::counting::one_more;
+use desk_input::Piece;
+use desk_input::read_piece;
+use desk_rehearsal::MAX_LINE;
+use desk_rehearsal::answer_line;
+use desk_rehearsal::summarise;
+use desk_transcript::MAX_ANSWER;
+use desk_transcript::MAX_SUMMARY;
 use libc::STDIN_FILENO;
 use libc::STDOUT_FILENO;
 use meaning::sizes::RECORD;
-use rehearsal::MAX_LINE;
-use rehearsal::answer_line;
-use rehearsal::summarise;
-use transcript::MAX_ANSWER;
-use transcript::MAX_SUMMARY;
 ghost use mathlib.Core.Path.{_≡_};
 ghost use Prim.Native.Nat.{_≤_};
 ghost use lib.ListN.{length};

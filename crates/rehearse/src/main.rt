@@ -5,15 +5,15 @@ mod lines;
 
 use crate::lines::print;
 use crate::lines::rehearse;
-use input::Piece;
-use input::is_open;
-use input::read_whole;
+use desk_input::Piece;
+use desk_input::is_open;
+use desk_input::read_whole;
+use desk_rehearsal::asking::wish_of;
+use desk_rehearsal::opening::open_program;
+use desk_transcript::MAX_ANSWER;
 use libc::STDERR_FILENO;
 use meaning::sizes::MAX_FILE;
 use meaning::sizes::MAX_TABLE;
-use rehearsal::asking::wish_of;
-use rehearsal::opening::open_program;
-use transcript::MAX_ANSWER;
 
 // Where the arguments stand that name the program file and ask for the marked parts.
 const FILE: usize = 1;

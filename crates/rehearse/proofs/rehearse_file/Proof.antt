@@ -1,7 +1,7 @@
 -- `rehearse_file` is safe: what is read lies within the buffer.
 use mathlib.Core.Path.{sym}
 use lib.Seq.{length-take-le}
-use Rattle.input.proofs.Brought.{whole-inside}
+use Rattle.desk_input.proofs.Brought.{whole-inside}
 use borrow.Author.Needs.{needs}
 use Rattle.rehearse.proofs.rehearse_file.Statement.{statement}
 use Rattle.rehearse.proofs.rehearse_file.Tie as tie

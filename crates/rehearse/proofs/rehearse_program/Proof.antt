@@ -1,7 +1,7 @@
 -- `rehearse_program` is safe: the table of an accepted file, and the text of a refusal, lie within their buffers.
 use native.Mathlib.Omega.{arith}
 use lib.ListN.{length-take}
-use Rattle.rehearsal.proofs.Opens.{opened-fits, refusal-fits}
+use Rattle.desk_rehearsal.proofs.Opens.{opened-fits, refusal-fits}
 use borrow.Author.Needs.{needs}
 use Rattle.rehearse.proofs.rehearse_program.Statement.{statement}
 use Rattle.rehearse.proofs.rehearse_program.Tie as tie

@@ -1,8 +1,0 @@
--- Where a line ends in a buffer.
-use Prim.Native.Nat.{ℕ}
-use mathlib.Core.List.{List}
-use Rattle.words.specs.Places.{place}
-
--- a line ends at the first line feed
-abbrev pub lineEnd : List ℕ → ℕ → ℕ → ℕ
-lineEnd l from to = place 10 l from to

@@ -1,0 +1,39 @@
+-- `write_line_fault` meets its contract: the word, then the number, then the rest.
+use borrow.Author.Needs.{needs}
+use Rattle.desk_format.proofs.Texts.{first-room, second-room, third-room, three-written}
+use Rattle.desk_answers.proofs.Answering.{line-pieces}
+use Rattle.desk_answers.proofs.write_line_fault.Statement.{statement}
+use Rattle.desk_answers.proofs.write_line_fault.Tie as tie
+
+slice-aggregate-write-word : tie.Need-slice-aggregate-write-word
+slice-aggregate-write-word c = search needs
+
+write-word-requires : tie.Need-write-word-requires
+write-word-requires c κs = first-room _ (c .before .before .before .pre) (line-pieces _)
+
+write-number-requires : tie.Need-write-number-requires
+write-number-requires c κs = second-room (c .before .before .before .before .before .before .before .pre) (line-pieces _) (c .before .before .before .write-word .ensures)
+
+slice-aggregate-write-word-2 : tie.Need-slice-aggregate-write-word-2
+slice-aggregate-write-word-2 c = search needs
+
+write-word-requires-2 : tie.Need-write-word-requires-2
+write-word-requires-2 c κs = third-room (c .before .before .before .before .before .before .before .before .before .before .before .before .pre) (line-pieces _) (c .before .before .before .before .before .before .before .before .write-word .ensures) (c .before .before .before .before .write-number .ensures)
+
+same-length : tie.Need-same-length
+same-length c = search needs
+
+returns : tie.Need-returns
+returns c = search (three-written, line-pieces)
+
+pub write-line-fault-spec : {M : Type 1} → statement M
+write-line-fault-spec =
+    tie.close
+    (tie.spec
+    slice-aggregate-write-word
+    write-word-requires
+    write-number-requires
+    slice-aggregate-write-word-2
+    write-word-requires-2
+    same-length
+    returns)

@@ -1,0 +1,105 @@
+// Reads one line of a list of calls: `begin HEX`, `offer TIME`, `offer TIME LENGTH` or `settle HEX`.
+pub mod pieces;
+
+use base::at;
+use desk_parse::Numeral;
+use desk_parse::Pairs;
+use desk_parse::decimal::numeral;
+use desk_parse::hexadecimal::read_pairs;
+use desk_parse::is_word;
+use desk_parse::rest_of;
+use desk_parse::trimmed;
+use desk_parse::word_of;
+ghost use mathlib.Core.Path.{_≡_};
+ghost use lib.Seq.{sets};
+ghost use Rattle.desk_calls.specs.Lines.{passedOver, beginWith, settleWith, offerWith, callOf, lineOf, bytesAfter, bytesOf};
+
+// What a line says. The bytes of an estimate are stored beside it; `Begin` and `Settle` have their
+// number. `OfferInto` has a time and the goal buffer's length.
+pub enum Line {
+    Passed,
+    Begin(usize),
+    Offer(u32),
+    OfferInto(u32, u32),
+    Settle(usize),
+    NotACall,
+}
+
+// Whether a line with this first word is passed over.
+fn passed_over(word: &[u8]) -> bool
+    ensures { λ r. ⌜ r ≡ passedOver (now (word .entry)) ⌝ }
+{
+    (word.len() == 0) | (at(word, 0) == b'#')
+}
+
+// A beginning, where its estimate has no fault.
+fn begin_with(pairs: Pairs) -> Line
+    ensures { λ r. ⌜ r ≡ beginWith pairs ⌝ }
+{
+    match pairs {
+        Pairs::Whole(n) => Line::Begin(n),
+        Pairs::Broken => Line::NotACall,
+    }
+}
+
+// A settling, where its estimate has no fault.
+fn settle_with(pairs: Pairs) -> Line
+    ensures { λ r. ⌜ r ≡ settleWith pairs ⌝ }
+{
+    match pairs {
+        Pairs::Whole(n) => Line::Settle(n),
+        Pairs::Broken => Line::NotACall,
+    }
+}
+
+// A time, and after it a length or nothing.
+fn offer_with(s: &[u8]) -> Line
+    ensures { λ r. ⌜ r ≡ offerWith (now (s .entry)) ⌝ }
+{
+    let first = trimmed(s);
+    let Numeral::Value(time) = numeral(word_of(first)) else {
+        return Line::NotACall;
+    };
+    let second = trimmed(rest_of(first));
+    if second.len() == 0 {
+        return Line::Offer(time);
+    }
+    let Numeral::Value(length) = numeral(word_of(second)) else {
+        return Line::NotACall;
+    };
+    if trimmed(rest_of(second)).len() == 0 {
+        Line::OfferInto(time, length)
+    } else {
+        Line::NotACall
+    }
+}
+
+// The line of a word and what stands after it.
+fn call_of(word: &[u8], rest: &[u8], bytes: &mut [u8]) -> Line
+    ensures { λ r. ⌜ r ≡ callOf (now (word .entry)) (now (rest .entry)) ⌝ }
+    ensures { λ _. ⌜ now (bytes .exit) ≡ sets (now (bytes .entry)) 0 (bytesAfter (now (word .entry)) (now (rest .entry))) ⌝ }
+{
+    if passed_over(word) {
+        return Line::Passed;
+    }
+    if is_word(word, b"begin") {
+        return begin_with(read_pairs(rest, bytes));
+    }
+    if is_word(word, b"offer") {
+        return offer_with(rest);
+    }
+    if is_word(word, b"settle") {
+        return settle_with(read_pairs(rest, bytes));
+    }
+    Line::NotACall
+}
+
+// Reads a line, which has no line feed, and stores the bytes of the estimate that it carries from the
+// beginning of `bytes` on. A buffer as long as the line has room for them.
+pub fn read_line(line: &[u8], bytes: &mut [u8]) -> Line
+    ensures { λ r. ⌜ r ≡ lineOf (now (line .entry)) ⌝ }
+    ensures { λ _. ⌜ now (bytes .exit) ≡ sets (now (bytes .entry)) 0 (bytesOf (now (line .entry))) ⌝ }
+{
+    let text = trimmed(line);
+    call_of(word_of(text), rest_of(text), bytes)
+}

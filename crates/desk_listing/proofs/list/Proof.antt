@@ -1,0 +1,63 @@
+-- `list` meets its contract: the text of the table where the file is read into one, else the line of its refusal.
+use borrow.Author.Needs.{needs}
+use native.Mathlib.Omega.{arith}
+use Rattle.meaning.specs.declared.Form.the-variants.{Table}
+use Rattle.meaning.specs.Sizes.{maxParts, lengthOf}
+use Rattle.desk_listing.proofs.Listed.{list-long, list-done, list-refused}
+use Rattle.desk_listing.proofs.list.Statement.{statement}
+use Rattle.desk_listing.proofs.list.Tie as tie
+
+slice-aggregate-compile : tie.Need-slice-aggregate-compile
+slice-aggregate-compile c = search needs
+
+compile-requires : tie.Need-compile-requires
+compile-requires c κs = search needs
+
+enum-told : tie.Need-enum-told
+enum-told c = search needs
+
+slice-aggregate-write-table : tie.Need-slice-aggregate-write-table
+slice-aggregate-write-table c = search needs
+
+write-table-requires : tie.Need-write-table-requires
+write-table-requires c κs =
+    let a = c .before .before .before .before .before .compile .ensures in
+    omega (arith, list-long _ (lengthOf Table maxParts) (omega arith) _ (a .0) _ (a .1) (c .before .before .enum-told .given .1))
+
+enum-known-answer : tie.Need-enum-known-answer
+enum-known-answer c = search needs
+
+write-refusal-requires : tie.Need-write-refusal-requires
+write-refusal-requires c κs = search needs
+
+same-length : tie.Need-same-length
+same-length c = search needs
+
+returns : tie.Need-returns
+returns c =
+    let a = c .before .before .before .before .before .before .before .before .compile .ensures in
+    list-done _ _ _ _ (lengthOf Table maxParts) (omega arith) _ (a .0) _ (a .1) (c .before .before .before .before .before .enum-told .given .1) (c .before .before .write-table .ensures)
+
+same-length-2 : tie.Need-same-length-2
+same-length-2 c = search needs
+
+returns-2 : tie.Need-returns-2
+returns-2 c =
+    let a = c .before .before .before .before .before .before .before .before .compile .ensures in
+    list-refused _ _ _ _ (lengthOf Table maxParts) (omega arith) _ (a .0) _ (c .before .before .before .before .before .answer .given .1) (c .before .before .write-refusal .ensures)
+
+pub list-spec : {M : Type 1} → statement M
+list-spec =
+    tie.close
+    (tie.spec
+    slice-aggregate-compile
+    compile-requires
+    enum-told
+    slice-aggregate-write-table
+    write-table-requires
+    enum-known-answer
+    write-refusal-requires
+    same-length
+    returns
+    same-length-2
+    returns-2)

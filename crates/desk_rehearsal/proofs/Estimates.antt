@@ -1,0 +1,73 @@
+-- A line that is heard: the estimate that it carries stands at the beginning of the buffer, and what it comes to depends on that alone.
+use Prim.Native.Nat.{ℕ, _≤_, _<_}
+use native.Mathlib.Omega.{arith}
+use mathlib.Core.Path.{_≡_, refl, ap, _∙_}
+use mathlib.Core.List.{List}
+use lib.ListN.{length, take, replicate, length-replicate}
+use lib.Seq.{sets, length-sets}
+use borrow.Author.Tests.{le-leb, lt-leb}
+use Rattle.desk_calls.specs.declared.Line.{Line}
+use Rattle.desk_calls.specs.declared.Line.the-variants.{Passed, Begin, Offer, OfferInto, Settle, NotACall}
+use Rattle.desk_calls.specs.Lines.{lineOf, bytesOf}
+use Rattle.desk_calls.proofs.Room.{room, begin-number, settle-number, estimate-stored}
+use Rattle.desk_dispatch.specs.Making.{Told, cyclesAt}
+use Rattle.desk_rehearsal.specs.Rehearsal.{maxLine, heard, estimateLength, Carried, Hearing}
+
+-- a line and the buffer that it is read into
+module _ (l bytes : List ℕ) (n : ℕ) (bytes-are : bytes ≡ sets (replicate n 0) 0 (bytesOf l)) (fits : length l ≤ n) where
+  taken : (k : ℕ) → k ≡ length (bytesOf l) → (k ≤ length bytes) × (take k bytes ≡ bytesOf l)
+  taken k h =
+      let whole : length (replicate {A = ℕ} n 0) ≡ n = length-replicate n 0 in
+      let same : length bytes ≡ n = ap length bytes-are ∙ length-sets (replicate n 0) 0 (bytesOf l) ∙ whole in
+      (omega (arith, room l), rw bytes-are (estimate-stored l (replicate n 0) k (omega arith) h))
+
+  line-carried : Carried (lineOf l) bytes (bytesOf l)
+  line-carried = go (lineOf l) refl
+    where
+      go : (x : Line) → lineOf l ≡ x → Carried x bytes (bytesOf l)
+      go Passed e = tt
+      go (Begin k) e = taken k (begin-number l k e)
+      go (Offer time) e = tt
+      go (OfferInto time room) e = tt
+      go (Settle k) e = taken k (settle-number l k e)
+      go NotACall e = tt
+
+-- what is heard of a line that is too long, and of any other
+module _ (l bytes : List ℕ) where
+  pub heard-long : maxLine < length l → Hearing l bytes NotACall
+  unfolding heard
+  heard-long h = record { line-is = rw (lt-leb (length l) maxLine h); carried = tt }
+
+  pub heard-short : (x : Line) (bytes' : List ℕ) → bytes ≡ replicate maxLine 0 → length l ≤ maxLine → x ≡ lineOf l → bytes' ≡ sets bytes 0 (bytesOf l) → Hearing l bytes' x
+  unfolding heard
+  heard-short x bytes' zeros h e s = record { line-is = rw (le-leb (length l) maxLine h) e; carried = rw e (line-carried l bytes' maxLine (rw zeros at s) h) }
+
+-- so many bytes are there, and they are the estimate
+module _ (bytes est : List ℕ) where
+  carried-fits : (x : Line) → Carried x bytes est → estimateLength x ≤ length bytes
+  carried-fits Passed h = omega arith
+  carried-fits (Begin k) h = h .0
+  carried-fits (Offer time) h = omega arith
+  carried-fits (OfferInto time room) h = omega arith
+  carried-fits (Settle k) h = h .0
+  carried-fits NotACall h = omega arith
+
+  module _ (t r : List ℕ) (n : ℕ) where
+    pub told-carried : (r' text : List ℕ) (x : Line) → Carried x bytes est → Told t r n x (take (estimateLength x) bytes) r' text → Told t r n x est r' text
+    told-carried r' text Passed h told = told
+    told-carried r' text (Begin k) h told = rw (h .1) at told
+    told-carried r' text (Offer time) h told = told
+    told-carried r' text (OfferInto time room) h told = told
+    told-carried r' text (Settle k) h told = rw (h .1) at told
+    told-carried r' text NotACall h told = told
+
+    pub cycles-carried : (x : Line) → Carried x bytes est → cyclesAt t r x (take (estimateLength x) bytes) n ≡ cyclesAt t r x est n
+    cycles-carried Passed h = refl
+    cycles-carried (Begin k) h = rw (h .1)
+    cycles-carried (Offer time) h = refl
+    cycles-carried (OfferInto time room) h = refl
+    cycles-carried (Settle k) h = rw (h .1)
+    cycles-carried NotACall h = refl
+
+pub hearing-fits : (line bytes : List ℕ) (x : Line) (k : ℕ) → Hearing line bytes x → k ≡ estimateLength x → k ≤ length bytes
+hearing-fits line bytes x k h e = omega (arith, carried-fits bytes (bytesOf line) x (h .carried))

@@ -1,0 +1,69 @@
+-- `answer_line` meets its contract: the line is heard, what it says is done, and the parts stand under it. A size of a table is a byte, so the text fits.
+use Rattle.desk_rehearsal.proofs.Estimates.{hearing-fits}
+use Rattle.desk_rehearsal.proofs.Answered.{answer-room, answer-made}
+use native.Mathlib.Omega.{arith}
+use borrow.Author.Needs.{needs}
+use lib.ListN.{length-take}
+use Rattle.desk_rehearsal.proofs.answer_line.Statement.{statement}
+use Rattle.desk_rehearsal.proofs.answer_line.Tie as tie
+
+slice-aggregate-hear : tie.Need-slice-aggregate-hear
+slice-aggregate-hear c = search needs
+
+hear-requires : tie.Need-hear-requires
+hear-requires c κs = search needs
+
+estimate-length-requires : tie.Need-estimate-length-requires
+estimate-length-requires c κs = search needs
+
+array-share-prefix-bytes : tie.Need-array-share-prefix-bytes
+array-share-prefix-bytes c = search hearing-fits
+
+slice-aggregate-make : tie.Need-slice-aggregate-make
+slice-aggregate-make c = simp length-take (omega (arith, hearing-fits _ _ _ _ (c .before .before .before .before .hear .ensures) (c .before .before .estimate-length .ensures)))
+
+make-requires : tie.Need-make-requires
+make-requires c κs = search needs
+
+is-call-requires : tie.Need-is-call-requires
+is-call-requires c κs = search needs
+
+add-parts-requires : tie.Need-add-parts-requires
+add-parts-requires c κs =
+    let called = c .before in
+    let made = called .before .before .before .before .before .before in
+    let counted = made .before .before .before .before in
+    let heard = counted .before .before in
+    let sizes = heard .before .before .before .before .before .shared-slice-known .given in
+    answer-room _ _ _ _ _ _ _ _ (heard .before .before .before .before .before .before .args .asked) _ _ _ _ _ (heard .hear .ensures) (counted .estimate-length .ensures) (called .is-call .ensures) (made .make .ensures) (sizes 0 .fits) (sizes 1 .fits)
+
+same-length : tie.Need-same-length
+same-length c = search needs
+
+same-length-2 : tie.Need-same-length-2
+same-length-2 c = search needs
+
+returns : tie.Need-returns
+returns c =
+    let called = c .before .before .before .before in
+    let made = called .before .before .before .before .before .before in
+    let counted = made .before .before .before .before in
+    let heard = counted .before .before in
+    let sizes = heard .before .before .before .before .before .shared-slice-known .given in
+    answer-made _ _ _ _ _ _ _ _ (heard .before .before .before .before .before .before .args .asked) _ _ _ _ _ (heard .hear .ensures) (counted .estimate-length .ensures) (called .is-call .ensures) (made .make .ensures) (sizes 0 .fits) (sizes 1 .fits) _ _ (c .before .before .add-parts .ensures)
+
+pub answer-line-spec : {M : Type 1} → statement M
+answer-line-spec =
+    tie.close
+    (tie.spec
+    slice-aggregate-hear
+    hear-requires
+    estimate-length-requires
+    array-share-prefix-bytes
+    slice-aggregate-make
+    make-requires
+    is-call-requires
+    add-parts-requires
+    same-length
+    same-length-2
+    returns)

@@ -1,0 +1,72 @@
+-- One line of a rehearsal: what text, record, count of cycles and end follow from a line, a record and a count.
+use Prim.Native.Nat.{ℕ, _≤_}
+use mathlib.Core.Path.{_≡_}
+use mathlib.Core.Bool.{Bool, true, false, cond, _&&_}
+use mathlib.Core.List.{List, [], _++_}
+use lib.Dec.{leb}
+use lib.ListN.{length, take}
+use Rattle.desk_format.specs.Writing.{Written}
+use Rattle.desk_calls.specs.declared.Line.{Line}
+use Rattle.desk_calls.specs.declared.Line.the-variants.{Passed, Begin, Offer, OfferInto, Settle, NotACall}
+use Rattle.desk_calls.specs.Lines.{lineOf, bytesOf}
+use Rattle.desk_transcript.specs.Transcript.{partsText}
+use Rattle.desk_dispatch.specs.declared.Turn.{Turn}
+use Rattle.desk_dispatch.specs.Making.{Told, cyclesAt, endsRun, Turned}
+
+-- A longer line is no call
+abbrev pub maxLine : ℕ
+maxLine = 4095
+
+unfoldable pub heard : List ℕ → Line
+heard line = cond (leb (length line) maxLine) (lineOf line) NotACall
+
+-- Whether a line asks for a call, under whose answer the marked parts may stand
+abbrev pub isCall : Line → Bool
+isCall Passed = false
+isCall (Begin k) = true
+isCall (Offer time) = true
+isCall (OfferInto time room) = true
+isCall (Settle k) = true
+isCall NotACall = false
+
+abbrev pub partsUnder : Bool → List ℕ → List ℕ → List ℕ
+partsUnder asked t r = cond asked (partsText t r) []
+
+-- the text of a line and, where parts are asked for, the line of the marked parts under it
+pub record WithParts (t r : List ℕ) (number : ℕ) (line : Line) (est : List ℕ) (asked : Bool) (r' text : List ℕ) : Type 0 where
+  pub answer : List ℕ
+  pub told : Told t r number line est r' answer
+  pub text-is : text ≡ answer ++ partsUnder (asked && isCall line) t r'
+
+-- A line answered
+abbrev pub Answered : List ℕ → List ℕ → ℕ → ℕ → Bool → List ℕ → List ℕ → List ℕ → List ℕ → Turn → Type 0
+Answered t r cycles number asked line r' out out' turn =
+    Turned (WithParts t r number (heard line) (bytesOf line) asked r') (cyclesAt t r (heard line) (bytesOf line) cycles) (endsRun (heard line)) out out' turn
+
+-- How many bytes of an estimate a line carries, and that they stand at the beginning of a buffer
+abbrev pub estimateLength : Line → ℕ
+estimateLength Passed = 0
+estimateLength (Begin n) = n
+estimateLength (Offer time) = 0
+estimateLength (OfferInto time room) = 0
+estimateLength (Settle n) = n
+estimateLength NotACall = 0
+
+abbrev pub Carried : Line → List ℕ → List ℕ → Type 0
+Carried Passed bytes est = Unit {0}
+Carried (Begin n) bytes est = (n ≤ length bytes) × (take n bytes ≡ est)
+Carried (Offer time) bytes est = Unit {0}
+Carried (OfferInto time room) bytes est = Unit {0}
+Carried (Settle n) bytes est = (n ≤ length bytes) × (take n bytes ≡ est)
+Carried NotACall bytes est = Unit {0}
+
+-- A line that was heard: what it says, with its estimate at the beginning of a buffer
+pub record Hearing (line bytes : List ℕ) (x : Line) : Type 0 where
+  pub line-is : x ≡ heard line
+  pub carried : Carried x bytes (bytesOf line)
+
+-- The parts written under what a turn has written, where they are asked for
+pub record Under (asked : Bool) (t r : List ℕ) (turn : Turn) (out out' : List ℕ) (turn' : Turn) : Type 0 where
+  pub written : Written (partsUnder asked t r) out (turn .length) out' (turn' .length)
+  pub cycles-are : turn' .cycles ≡ turn .cycles
+  pub ends-is : turn' .ends ≡ turn .ends

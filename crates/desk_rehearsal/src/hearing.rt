@@ -1,0 +1,46 @@
+// What a line says.
+use crate::MAX_LINE;
+use desk_calls::Line;
+use desk_calls::read_line;
+ghost use mathlib.Core.Path.{_≡_};
+ghost use lib.ListN.{replicate};
+ghost use Rattle.desk_rehearsal.specs.Rehearsal.{maxLine, isCall, estimateLength, Hearing};
+
+// Reads a line. The estimate that it carries stands in `bytes` then, which begins as zeros.
+pub(crate) fn hear(line: &[u8], bytes: &mut [u8]) -> Line
+    requires { ⌜ now bytes ≡ replicate maxLine 0 ⌝ }
+    ensures { λ x. ⌜ Hearing (now (line .entry)) (now (bytes .exit)) x ⌝ }
+{
+    if MAX_LINE < line.len() {
+        return Line::NotACall;
+    }
+    read_line(line, bytes)
+}
+
+// How many bytes of an estimate a line carries.
+pub(crate) fn estimate_length(x: Line) -> usize
+    ensures { λ n. ⌜ n ≡ estimateLength x ⌝ }
+{
+    match x {
+        Line::Passed => 0,
+        Line::Begin(n) => n,
+        Line::Offer(_) => 0,
+        Line::OfferInto(_, _) => 0,
+        Line::Settle(n) => n,
+        Line::NotACall => 0,
+    }
+}
+
+// Whether a line asks for a call.
+pub(crate) fn is_call(x: Line) -> bool
+    ensures { λ b. ⌜ b ≡ isCall x ⌝ }
+{
+    match x {
+        Line::Passed => false,
+        Line::Begin(_) => true,
+        Line::Offer(_) => true,
+        Line::OfferInto(_, _) => true,
+        Line::Settle(_) => true,
+        Line::NotACall => false,
+    }
+}

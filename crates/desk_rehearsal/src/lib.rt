@@ -1,0 +1,72 @@
+// One line of a rehearsal: what it asks for is done, and what comes of it is written.
+pub mod asking;
+pub mod hearing;
+pub mod opening;
+
+use crate::hearing::estimate_length;
+use crate::hearing::hear;
+use crate::hearing::is_call;
+use desk_dispatch::Turn;
+use desk_dispatch::making::make;
+use desk_transcript::parts::write_parts;
+use desk_transcript::summary::write_summary;
+ghost use Prim.Native.Nat.{_+_, _≤_, _<_, _^_};
+ghost use lib.ListN.{length};
+ghost use Rattle.desk_format.specs.Writing.{Written};
+ghost use Rattle.desk_transcript.specs.Transcript.{summaryText, maxAnswer, maxSummary};
+ghost use Rattle.desk_rehearsal.specs.Rehearsal.{partsUnder, Answered, Under};
+
+// The longest line that can be a call.
+pub const MAX_LINE: usize = 4095;
+
+// What a program file has come to: whether it is read, and how long its table is, or else the text that
+// says why it is not.
+pub struct Opened {
+    pub accepted: bool,
+    pub length: usize,
+}
+
+// Writes the marked parts under what a turn has written, where they are asked for.
+fn add_parts(t: &[u8], r: &[u8], asked: bool, turn: Turn, out: &mut [u8]) -> Turn
+    requires { ⌜ turn .length + length (partsUnder asked (now t) (now r)) < 2 ^ 64 ⌝ }
+    ensures { λ x. ⌜ Under asked (now (t .entry)) (now (r .entry)) turn (now (out .entry)) (now (out .exit)) x ⌝ }
+{
+    if !asked {
+        return turn;
+    }
+    let n = write_parts(t, r, out, turn.length);
+    Turn {
+        length: n,
+        cycles: turn.cycles,
+        ends: turn.ends,
+    }
+}
+
+// Answers a line: makes its call on the record, and writes the answer into `out`, with the marked parts
+// under it where they are asked for. `cycles` is the count of cycles before it, `number` the line's.
+pub fn answer_line(
+    t: &[u8],
+    r: &mut [u8],
+    cycles: u64,
+    number: u64,
+    asked: bool,
+    line: &[u8],
+    out: &mut [u8],
+) -> Turn
+    ensures { λ x. ⌜ Answered (now (t .entry)) (now (r .entry)) cycles number asked (now (line .entry)) (now (r .exit)) (now (out .entry)) (now (out .exit)) x ⌝ }
+    ensures { λ x. ⌜ x .length ≤ maxAnswer ⌝ }
+{
+    let mut bytes = [0u8; MAX_LINE];
+    let x = hear(line, &mut bytes);
+    let n = estimate_length(x);
+    let turn = make(t, r, cycles, number, x, &bytes[..n], out);
+    add_parts(t, r, asked & is_call(x), turn, out)
+}
+
+// Writes what the run has come to, after the last line.
+pub fn summarise(t: &[u8], r: &[u8], cycles: u64, out: &mut [u8]) -> usize
+    ensures { λ n. ⌜ Written (summaryText (now (t .entry)) (now (r .entry)) cycles) (now (out .entry)) 0 (now (out .exit)) n ⌝ }
+    ensures { λ n. ⌜ n ≤ maxSummary ⌝ }
+{
+    write_summary(t, r, cycles, out, 0)
+}

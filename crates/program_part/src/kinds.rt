@@ -1,0 +1,127 @@
+// What document 01's table of kinds says of an entry: whether its kind is known, whether its
+// operand is allowed, and how many children it has.
+use meaning::Entry;
+use meaning::Number;
+use meaning::Operand;
+use meaning::sizes::MAX_VALUE;
+ghost use mathlib.Core.Path.{_≡_};
+ghost use Rattle.meaning.specs.Kinds.{value, conditionAllowed, goalAllowed, startAllowed, countAllowed, emptyAllowed};
+ghost use Rattle.meaning.specs.Program.{knownEntry, allowedEntry, arityOf};
+ghost use Rattle.program_part.specs.Children.{countIf, ofCondition, childrenOf};
+
+pub fn is_known(e: Entry) -> bool
+    ensures { λ r. ⌜ r ≡ knownEntry e ⌝ }
+{
+    (1 <= e.kind) & (e.kind <= 8)
+}
+
+// How many children follow the part.
+pub fn arity(e: Entry) -> Number
+    ensures { λ r. ⌜ r ≡ arityOf e ⌝ }
+{
+    let kind = e.kind;
+    let o = e.operand;
+    match kind {
+        4 => o.b0,
+        5 => o.b0,
+        6 => 1,
+        7 => 2,
+        8 => 1,
+        _ => 0,
+    }
+}
+
+// The 16-bit value of an operand.
+pub fn value(o: Operand) -> u16
+    ensures { λ r. ⌜ r ≡ value o ⌝ }
+{
+    (o.b2 as u16) + 256 * (o.b3 as u16)
+}
+
+fn is_goal(variables: u8, o: Operand) -> bool
+    ensures { λ r. ⌜ r ≡ goalAllowed variables o ⌝ }
+{
+    (o.b0 == 0) & ((o.b1 < variables) & (value(o) <= MAX_VALUE))
+}
+
+fn is_start(clocks: u8, o: Operand) -> bool
+    ensures { λ r. ⌜ r ≡ startAllowed clocks o ⌝ }
+{
+    (o.b0 == 0) & ((o.b1 < clocks) & (value(o) == 0))
+}
+
+fn is_count(o: Operand) -> bool
+    ensures { λ r. ⌜ r ≡ countAllowed o ⌝ }
+{
+    (o.b0 != 0) & ((o.b1 == 0) & (value(o) == 0))
+}
+
+fn is_empty(o: Operand) -> bool
+    ensures { λ r. ⌜ r ≡ emptyAllowed o ⌝ }
+{
+    (o.b0 == 0) & ((o.b1 == 0) & (value(o) == 0))
+}
+
+pub fn is_condition(variables: u8, clocks: u8, o: Operand) -> bool
+    ensures { λ r. ⌜ r ≡ conditionAllowed variables clocks o ⌝ }
+{
+    let test = o.b0;
+    match test {
+        1 | 2 => (o.b1 < variables) & (value(o) <= MAX_VALUE),
+        3 | 4 => o.b1 < clocks,
+        _ => false,
+    }
+}
+
+// How many children follow a part, or that its operand is not allowed.
+pub enum Children {
+    Count(Number),
+    NotAllowed,
+}
+
+fn count_if(allowed: bool, n: Number) -> Children
+    ensures { λ c. ⌜ c ≡ countIf allowed n ⌝ }
+{
+    if allowed {
+        Children::Count(n)
+    } else {
+        Children::NotAllowed
+    }
+}
+
+// The children of a part of a kind that has a condition, which is allowed or not.
+fn of_condition(kind: u8, allowed: bool) -> Children
+    ensures { λ c. ⌜ c ≡ ofCondition kind allowed ⌝ }
+{
+    match kind {
+        3 => count_if(allowed, 0),
+        6 => count_if(allowed, 1),
+        7 => count_if(allowed, 2),
+        _ => Children::NotAllowed,
+    }
+}
+
+// Operand and children are asked for together, and the kinds with a condition share an arm: so the
+// compiler makes one short jump of it wherever it is called.
+pub fn children_of(variables: u8, clocks: u8, e: Entry) -> Children
+    ensures { λ c. ⌜ c ≡ childrenOf variables clocks e ⌝ }
+{
+    let kind = e.kind;
+    let o = e.operand;
+    match kind {
+        1 => count_if(is_goal(variables, o), 0),
+        2 => count_if(is_start(clocks, o), 0),
+        4 | 5 => count_if(is_count(o), o.b0),
+        8 => count_if(is_empty(o), 1),
+        _ => of_condition(kind, is_condition(variables, clocks, o)),
+    }
+}
+
+pub fn is_allowed(variables: u8, clocks: u8, e: Entry) -> bool
+    ensures { λ r. ⌜ r ≡ allowedEntry variables clocks e ⌝ }
+{
+    match children_of(variables, clocks, e) {
+        Children::Count(_) => true,
+        Children::NotAllowed => false,
+    }
+}

@@ -1,0 +1,38 @@
+-- `examine` meets its contract: the first test that fails gives its number.
+use borrow.Author.Needs.{needs}
+use Rattle.run_allowed.proofs.Running.{is-table, not-table, not-allowed, run-over, goes-on}
+use Rattle.run_allowed.proofs.examine.Statement.{statement}
+use Rattle.run_allowed.proofs.examine.Tie as tie
+
+is-table-requires : tie.Need-is-table-requires
+is-table-requires c κs = search needs
+
+returns : tie.Need-returns
+returns c = search not-table
+
+is-allowed-requires : tie.Need-is-allowed-requires
+is-allowed-requires c κs = search is-table
+
+returns-2 : tie.Need-returns-2
+returns-2 c = search not-allowed
+
+phase-requires : tie.Need-phase-requires
+phase-requires c κs = search needs
+
+returns-3 : tie.Need-returns-3
+returns-3 c = search run-over
+
+returns-4 : tie.Need-returns-4
+returns-4 c = search goes-on
+
+pub examine-spec : {M : Type 1} → statement M
+examine-spec =
+    tie.close
+    (tie.spec
+    is-table-requires
+    returns
+    is-allowed-requires
+    returns-2
+    phase-requires
+    returns-3
+    returns-4)

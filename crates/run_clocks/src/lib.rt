@@ -1,0 +1,67 @@
+// The clocks at a settling: a marked START starts its clock at the last time, unless that clock is
+// already started.
+use base::store;
+use base::wide;
+use meaning::Form;
+use meaning::Number;
+use meaning::sizes::STARTED_PLACE;
+use meaning::sizes::STARTS_PLACE;
+use meaning::sizes::TIME;
+use program_part::held::parts;
+use program_walk::walker::entry_at;
+use run_record::fields::is_marked;
+use run_record::fields::is_started;
+use run_record::fields::last_time;
+use run_record::times::put_time;
+ghost use mathlib.Core.Path.{_≡_};
+ghost use mathlib.Core.Bool.{true};
+ghost use Prim.Native.Nat.{_<_, _≤_};
+ghost use lib.ListN.{length};
+ghost use lib.Seq.{sets};
+ghost use Rattle.base.specs.Lists.{flat};
+ghost use Rattle.meaning.specs.Sizes.{maxClocks, timeWidth, littleEndian};
+ghost use Rattle.meaning.specs.Program.{parts, clocks};
+ghost use Rattle.meaning.specs.Table.{isTable};
+ghost use Rattle.meaning.specs.Record.{startedPlace, startsPlace, recordLength, lastTime, startedIn, startsIn, recordAllowed};
+ghost use Rattle.meaning.specs.Cycle.{clockFlags, clockStarts, startingLeaves};
+ghost use Rattle.run_clocks.specs.Starting.{clockStarted, partStarted};
+
+// Starts clock c at a time, unless it is started.
+fn start_clock(r: &mut [u8], c: u8, time: u32)
+    requires { ⌜ recordLength ≤ length (now r) ⌝ }
+    requires { ⌜ c < maxClocks ⌝ }
+    ensures { λ _. ⌜ now (r .exit) ≡ clockStarted c time (now (r .entry)) ⌝ }
+{
+    if is_started(r, c) {
+        return;
+    }
+    store(r, STARTED_PLACE + wide(c), 1);
+    put_time(r, STARTS_PLACE + TIME * wide(c), time);
+}
+
+// Starts the clock of part p where it is a marked START.
+fn start_part(t: &[u8], r: &mut [u8], p: Number, time: u32)
+    requires { ⌜ isTable (now t) ≡ true ⌝ }
+    requires { ⌜ recordLength ≤ length (now r) ⌝ }
+    requires { ⌜ p < parts (now t) ⌝ }
+    ensures { λ _. ⌜ now (r .exit) ≡ partStarted (now (t .entry)) time p (now (r .entry)) ⌝ }
+{
+    let part = entry_at(t, Form::Table, p);
+    let o = part.operand;
+    if is_marked(r, p) & (part.kind == 2) {
+        start_clock(r, o.b1, time);
+    }
+}
+
+// Starts the clocks that marked STARTs name. A clock that none of them names keeps its bytes, so the
+// record must be one that is allowed.
+pub fn start_clocks(t: &[u8], r: &mut [u8])
+    requires { ⌜ isTable (now t) ≡ true ⌝ }
+    requires { ⌜ recordAllowed (now t) (now r) ≡ true ⌝ }
+    ensures { λ _. ⌜ now (r .exit) ≡ sets (sets (now (r .entry)) startedPlace (clockFlags (clocks (now (t .entry))) (startingLeaves (now (t .entry)) (now (r .entry))) (startedIn (now (t .entry)) (now (r .entry))))) startsPlace (flat (littleEndian timeWidth) (clockStarts (clocks (now (t .entry))) (startingLeaves (now (t .entry)) (now (r .entry))) (startedIn (now (t .entry)) (now (r .entry))) (startsIn (now (t .entry)) (now (r .entry))) (lastTime (now (r .entry))))) ⌝ }
+{
+    let time = last_time(r);
+    for p in 0..parts(t) {
+        start_part(t, r, p, time);
+    }
+}

@@ -1,0 +1,23 @@
+// The contested variable that an offer names.
+use base::wide;
+use meaning::OfferAnswer;
+use meaning::sizes::CONTESTED;
+ghost use mathlib.Core.Path.{_≡_};
+ghost use Prim.Native.Nat.{_+_, _≤_};
+ghost use lib.ListN.{length};
+ghost use Rattle.base.specs.Lists.{bytesAt};
+ghost use Rattle.meaning.specs.Answers.{answered, offerNumber};
+ghost use Rattle.run_goals.specs.Raised.{lowestContested};
+
+// Names the lowest of n variables whose goal byte is contested, or none.
+pub fn lowest_contested(g: &[u8], n: u8) -> OfferAnswer
+    requires { ⌜ n ≤ length (now g) ⌝ }
+    ensures { λ a. ⌜ offerNumber a ≡ answered + lowestContested 0 (bytesAt (now (g .entry)) 0 n) ⌝ }
+{
+    for v in 0..n {
+        if g[wide(v)] == CONTESTED {
+            return OfferAnswer::Contested(v);
+        }
+    }
+    OfferAnswer::Agreed
+}

@@ -1,0 +1,66 @@
+// What becomes of a marked part at a settling, judged by the new estimate, by this cycle's time and by
+// the clocks as they were before the cycle.
+use meaning::Entry;
+use meaning::Fate;
+use meaning::Operand;
+use run_record::conditions::reached;
+use run_record::conditions::satisfied;
+use run_record::fields::last_time;
+ghost use mathlib.Core.Path.{_≡_};
+ghost use mathlib.Core.Bool.{true};
+ghost use Prim.Native.Nat.{_≤_};
+ghost use lib.ListN.{length};
+ghost use Rattle.meaning.specs.Sizes.{maxClocks};
+ghost use Rattle.meaning.specs.Kinds.{CHOICE, kindOf, conditionAllowed};
+ghost use Rattle.meaning.specs.Program.{variables, clocks, allowedEntry};
+ghost use Rattle.meaning.specs.Record.{recordLength, lastTime};
+ghost use Rattle.meaning.specs.Cycle.{endsIf, fate, situation};
+
+fn ends_if(b: bool) -> Fate
+    ensures { λ f. ⌜ f ≡ endsIf b ⌝ }
+{
+    if b { Fate::Ends } else { Fate::Stays }
+}
+
+// A CHOICE with nothing marked inside before the settling is deciding, and takes a child; any other
+// ends with the branch that it took.
+fn of_choice(t: &[u8], r: &[u8], est: &[u8], o: Operand, before: bool, after: bool) -> Fate
+    requires { ⌜ recordLength ≤ length (now r) ⌝ }
+    requires { ⌜ variables (now t) ≤ length (now est) ⌝ }
+    requires { ⌜ clocks (now t) ≤ maxClocks ⌝ }
+    requires { ⌜ conditionAllowed (variables (now t)) (clocks (now t)) o ≡ true ⌝ }
+    ensures { λ f. ⌜ f ≡ fate (situation (now (t .entry)) (now (r .entry)) (now (est .entry)) (lastTime (now (r .entry)))) CHOICE o before after ⌝ }
+{
+    if before {
+        return ends_if(!after);
+    }
+    if satisfied(t, r, est, last_time(r), o) {
+        Fate::First
+    } else {
+        Fate::Second
+    }
+}
+
+// The fate of a marked part; `before` and `after` say whether something is marked inside it, before
+// and after the settling of what is inside.
+pub fn fate(t: &[u8], r: &[u8], est: &[u8], part: Entry, before: bool, after: bool) -> Fate
+    requires { ⌜ recordLength ≤ length (now r) ⌝ }
+    requires { ⌜ variables (now t) ≤ length (now est) ⌝ }
+    requires { ⌜ clocks (now t) ≤ maxClocks ⌝ }
+    requires { ⌜ allowedEntry (variables (now t)) (clocks (now t)) part ≡ true ⌝ }
+    ensures { λ f. ⌜ f ≡ fate (situation (now (t .entry)) (now (r .entry)) (now (est .entry)) (lastTime (now (r .entry)))) (kindOf (part .kind)) (part .operand) before after ⌝ }
+{
+    let kind = part.kind;
+    let operand = part.operand;
+    match kind {
+        1 => ends_if(reached(est, operand)),
+        2 => Fate::Ends,
+        3 => ends_if(satisfied(t, r, est, last_time(r), operand)),
+        4 => ends_if(!after),
+        5 => ends_if(!after),
+        6 => ends_if(!after),
+        7 => of_choice(t, r, est, operand, before, after),
+        8 => ends_if(!after),
+        _ => Fate::Stays,
+    }
+}

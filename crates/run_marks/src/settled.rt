@@ -1,0 +1,140 @@
+// The marks after a settling. The parts are settled from the last one down, so that what is inside a
+// part is settled before it. Marks before the settling are read from the record and those after it
+// are written to a list of their own, so that a part marked by this settling is not judged by it.
+use crate::fates::fate;
+use base::store;
+use base::wide;
+use meaning::Fate;
+use meaning::Form;
+use meaning::Number;
+use meaning::sizes::NO_PART;
+use program_part::held::end_at;
+use program_part::held::next_at;
+use program_part::held::parts;
+use program_walk::walker::entry_at;
+use run_begin::initialise::initialise;
+use run_record::fields::is_marked;
+ghost use mathlib.Core.Path.{_≡_};
+ghost use mathlib.Core.Logic.{_⊎_};
+ghost use mathlib.Core.Bool.{true};
+ghost use Prim.Native.Nat.{_<_, _≤_};
+ghost use lib.ListN.{length};
+ghost use lib.Seq.{sets};
+ghost use Rattle.meaning.specs.Sizes.{noPart};
+ghost use Rattle.meaning.specs.Program.{parts, variables};
+ghost use Rattle.meaning.specs.Table.{isTable};
+ghost use Rattle.meaning.specs.Record.{recordLength};
+ghost use Rattle.meaning.specs.Cycle.{settledMarks};
+ghost use Rattle.run_marks.specs.Settling.{markAfter, follower, Fated, marked, lowestWith, turnFate, turnMarks, turnLowest};
+
+// The lowest marked part after a part, by the marks before and after the settling; the number of
+// parts where none is marked. It spares looking into a part: something is marked inside it where
+// the lowest marked part after it stands before its end.
+pub struct Lowest {
+    pub old: Number,
+    pub new: Number,
+}
+
+// The mark that a fate leaves its part.
+fn mark_after(f: Fate) -> u8
+    ensures { λ x. ⌜ x ≡ markAfter f ⌝ }
+{
+    match f {
+        Fate::Stays => 1,
+        Fate::Ends => 0,
+        Fate::First => 1,
+        Fate::Second => 1,
+    }
+}
+
+// The part that is initialised with a fate of part p, or none.
+fn follower(t: &[u8], p: Number, f: Fate) -> Number
+    requires { ⌜ isTable (now t) ≡ true ⌝ }
+    requires { ⌜ p < parts (now t) ⌝ }
+    requires { ⌜ Fated (now t) p f ⌝ }
+    ensures { λ q. ⌜ q ≡ follower (now (t .entry)) p f ⌝ }
+{
+    match f {
+        Fate::Stays => NO_PART,
+        Fate::Ends => next_at(t, p),
+        Fate::First => p + 1,
+        Fate::Second => end_at(t, p + 1),
+    }
+}
+
+// Stores part p's mark, and initialises part q where it is one.
+fn mark(t: &[u8], m: &mut [u8], p: Number, x: u8, q: Number)
+    requires { ⌜ isTable (now t) ≡ true ⌝ }
+    requires { ⌜ p < parts (now t) ⌝ }
+    requires { ⌜ (q ≡ noPart) ⊎ (q < parts (now t)) ⌝ }
+    requires { ⌜ parts (now t) ≤ length (now m) ⌝ }
+    ensures { λ _. ⌜ now (m .exit) ≡ marked (now (t .entry)) p x q (now (m .entry)) ⌝ }
+{
+    store(m, wide(p), x);
+    if q != NO_PART {
+        initialise(t, m, 0, q);
+    }
+}
+
+// The lowest marked part after that, from p on.
+fn lowest_with(p: Number, x: u8, q: Number, low: Number) -> Number
+    ensures { λ l. ⌜ l ≡ lowestWith p x q low ⌝ }
+{
+    if x != 0 {
+        return p;
+    }
+    if q < low { q } else { low }
+}
+
+fn turn_fate(t: &[u8], r: &[u8], est: &[u8], p: Number, low: Lowest) -> Fate
+    requires { ⌜ isTable (now t) ≡ true ⌝ }
+    requires { ⌜ recordLength ≤ length (now r) ⌝ }
+    requires { ⌜ variables (now t) ≤ length (now est) ⌝ }
+    requires { ⌜ p < parts (now t) ⌝ }
+    ensures { λ f. ⌜ f ≡ turnFate (now (t .entry)) (now (r .entry)) (now (est .entry)) p low ⌝ }
+{
+    let part = entry_at(t, Form::Table, p);
+    let end = end_at(t, p);
+    fate(t, r, est, part, low.old < end, low.new < end)
+}
+
+// Settles part p, and gives the lowest marked parts from p on.
+fn turn(t: &[u8], r: &[u8], est: &[u8], m: &mut [u8], p: Number, low: Lowest) -> Lowest
+    requires { ⌜ isTable (now t) ≡ true ⌝ }
+    requires { ⌜ recordLength ≤ length (now r) ⌝ }
+    requires { ⌜ variables (now t) ≤ length (now est) ⌝ }
+    requires { ⌜ parts (now t) ≤ length (now m) ⌝ }
+    requires { ⌜ p < parts (now t) ⌝ }
+    ensures { λ l. ⌜ l ≡ turnLowest (now (t .entry)) (now (r .entry)) (now (est .entry)) p low ⌝ }
+    ensures { λ _. ⌜ now (m .exit) ≡ turnMarks (now (t .entry)) (now (r .entry)) (now (est .entry)) p low (now (m .entry)) ⌝ }
+{
+    if !is_marked(r, p) {
+        store(m, wide(p), 0);
+        return low;
+    }
+    let f = turn_fate(t, r, est, p, low);
+    let x = mark_after(f);
+    let q = follower(t, p, f);
+    mark(t, m, p, x, q);
+    Lowest {
+        old: p,
+        new: lowest_with(p, x, q, low.new),
+    }
+}
+
+// Stores the marks after the settling at the beginning of m.
+pub fn settle_marks(t: &[u8], r: &[u8], est: &[u8], m: &mut [u8])
+    requires { ⌜ isTable (now t) ≡ true ⌝ }
+    requires { ⌜ recordLength ≤ length (now r) ⌝ }
+    requires { ⌜ variables (now t) ≤ length (now est) ⌝ }
+    requires { ⌜ parts (now t) ≤ length (now m) ⌝ }
+    ensures { λ _. ⌜ now (m .exit) ≡ sets (now (m .entry)) 0 (settledMarks (now (t .entry)) (now (r .entry)) (now (est .entry))) ⌝ }
+{
+    let n = parts(t);
+    let mut low = Lowest { old: n, new: n };
+    let mut p = n;
+    while 0 < p {
+        p = p - 1;
+        low = turn(t, r, est, m, p, low);
+    }
+}

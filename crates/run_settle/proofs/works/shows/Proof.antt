@@ -1,0 +1,21 @@
+-- `shows` meets its contract: the tests of the code are those of the definition.
+use borrow.Author.Needs.{needs}
+use Rattle.program_part.proofs.Places.{row-held}
+use Rattle.run_settle.proofs.Deciding.{shows-made}
+use Rattle.run_settle.proofs.works.shows.Statement.{statement}
+use Rattle.run_settle.proofs.works.shows.Tie as tie
+
+entry-at-requires : tie.Need-entry-at-requires
+entry-at-requires c κs = search row-held
+
+wide-requires : tie.Need-wide-requires
+wide-requires c κs = search needs
+
+shared-slice-read-result : tie.Need-shared-slice-read-result
+shared-slice-read-result c = search needs
+
+returns : tie.Need-returns
+returns c = search shows-made
+
+pub shows-spec : {M : Type 1} → statement M
+shows-spec = tie.close (tie.spec entry-at-requires wide-requires shared-slice-read-result returns)
