@@ -8,7 +8,7 @@ use meaning::Answer;
 use meaning::Refusal;
 use meaning::refusal_number;
 use meaning::sizes::MAX_TABLE;
-use program_table::compile;
+use program_compile::compile;
 ghost use mathlib.Core.Path.{_≡_};
 ghost use mathlib.Core.List.{[], _∷_};
 ghost use Prim.Native.Nat.{_≤_};

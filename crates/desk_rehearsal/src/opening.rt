@@ -3,9 +3,9 @@ use crate::Opened;
 use desk_answers::write_refused;
 use meaning::Answer;
 use meaning::Form;
+use program_compile::compile;
 use program_part::held::length_of;
 use program_part::held::parts;
-use program_table::compile;
 ghost use Rattle.desk_rehearsal.specs.Opening.{Opening};
 
 // Reads a program file into its table, or writes why it is refused.

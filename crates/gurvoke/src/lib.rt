@@ -3,8 +3,8 @@
 use meaning::answer_number;
 use meaning::offer_number;
 use meaning::settle_number;
-use program_table::compile;
-use program_table::decompile;
+use program_compile::compile;
+use program_decompile::decompile;
 use run_begin::begin;
 use run_offer::offer;
 use run_settle::settle;

@@ -1,7 +1,7 @@
 -- The tests that a call has passed where it is not refused, what it then leaves at the front of its buffers, and that a refused one changes nothing.
 use Prim.Native.Nat.{ℕ, _≤_}
 use native.Mathlib.Omega.{arith}
-use mathlib.Core.Path.{_≡_, refl, _∙_}
+use mathlib.Core.Path.{_≡_, refl, ap, _∙_}
 use mathlib.Core.Bool.{Bool, cond, not, _||_}
 use mathlib.Core.Logic.{inl}
 use mathlib.Core.List.{List, [], _∷_}
@@ -19,6 +19,10 @@ use Rattle.meaning.specs.Record.{estimatePlace, startedPlace, startsPlac
 use Rattle.meaning.specs.Cycle.{beginRefusal, begunInto, checkedMarks, leavesFrom, offerRefusal, offeredGoals, offeredInto, goalsInto, settledMarks, settledRecord, settleRefusal, settledInto, estimateAllowed, rootEnded, worksFrom, startingLeaves, clockFlags, clockStarts}
 use Rattle.meaning.proofs.Entries.{length-goals}
 use Rattle.meaning.proofs.Records.{allowed-long}
+
+-- An answer with what stands in the buffer: it is left as it is where the call is refused, and takes what is new where it is not
+pub effect : (n m : ℕ) (new out out₁ : List ℕ) → n ≡ m → out₁ ≡ cond (eqb n 0) new out → (n ≡ m) × (out₁ ≡ cond (eqb m 0) new out)
+effect n m new out out₁ e h = (e, h ∙ ap (λ (k : ℕ). cond (eqb k 0) new out) e)
 
 -- the tests of an offer and of a settling
 abbrev pub offer-list : List ℕ → List ℕ → ℕ → ℕ → List (ℕ × Bool)

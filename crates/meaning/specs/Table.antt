@@ -113,10 +113,6 @@ readRefusal f room = cond (eqb (programRefusal File f) 0) (firstFailing ((8, leb
 unfoldable pub readInto : List ℕ → List ℕ → List ℕ
 readInto f out = cond (eqb (readRefusal f (length out)) 0) (sets out 0 (compiled File f)) out
 
--- the table check alone: 9
-unfoldable pub tableRefusal : List ℕ → ℕ
-tableRefusal t = firstFailing ((9, isTable t) ∷ [])
-
 -- "Back to a file 9, 8"
 unfoldable pub writeRefusal : List ℕ → ℕ → ℕ
 writeRefusal t room = firstFailing ((9, isTable t) ∷ (8, leb (lengthOf File (parts t)) room) ∷ [])

@@ -12,7 +12,7 @@ use meaning::sizes::MAX_DEPTH;
 use program_part::held::length_of;
 use program_part::held::parts;
 use program_part::held::sizes_allowed;
-use program_walk::walker::root_extent;
+use program_walk::extent::root_extent;
 ghost use mathlib.Core.Path.{_≡_};
 ghost use Prim.Native.Nat.{_≤_};
 ghost use lib.ListN.{length};

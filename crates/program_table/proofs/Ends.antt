@@ -5,10 +5,10 @@ use native.Mathlib.Omega.{arith}
 use native.Mathlib.Numerals.{add-one}
 use mathlib.Core.Path.{_≡_, refl, sym, ap, subst, _∙_}
 use mathlib.Core.Logic.{_⊎_, inl, inr}
-use mathlib.Core.Bool.{Bool, true, false, cond}
+use mathlib.Core.Bool.{Bool, true, false}
 use mathlib.Core.Option.{some}
 use mathlib.Core.List.{List, [], _∷_, _++_, map}
-use lib.Dec.{eqb, ltb, leb}
+use lib.Dec.{ltb}
 use lib.ListN.{drop}
 use lib.Seq.{drop-drop}
 use borrow.Author.Tests.{ltb-true, ltb-false, eqb-true, eq-eqb, ne-eqb, le-leb}
@@ -19,15 +19,15 @@ use Rattle.meaning.specs.Sizes.{noPart, maxDepth}
 use Rattle.meaning.specs.Kinds.{Kind}
 use Rattle.meaning.specs.Tree.{Part, children, size, depth}
 use Rattle.meaning.specs.Program.{parts, variables, clocks, entries, trees, treeOf, programRefusal}
-use Rattle.meaning.specs.Table.{endAt, isTable, compiled, tableOf}
+use Rattle.meaning.specs.Table.{endAt, isTable, compiled}
 use Rattle.meaning.proofs.Trees.{All, part-ind, size-law}
-use Rattle.meaning.proofs.Files.{Holds, accepted, held-tree, single-part}
+use Rattle.meaning.proofs.Files.{accepted, held-tree, single-part}
 use Rattle.meaning.proofs.Tables.{table-held, compiled-is}
 use Rattle.meaning.proofs.Entries.{entry-allowed}
 use Rattle.meaning.proofs.Lies.{Lies, LieIn, own-row, inside, first-lies, others-lie, root-lies}
-use Rattle.program_walk.specs.Walk.{Stands, partAt, partsEnd}
-use Rattle.program_walk.proofs.Standing.{Peeled, peel, past, part-is}
-use Rattle.program_walk.proofs.Ending.{Fine, Whole, whole, whole-reached}
+use Rattle.program_walk.specs.Walk.{partAt, partsEnd}
+use Rattle.program_walk.proofs.Standing.{peel, past, part-is}
+use Rattle.program_walk.proofs.Ending.{Fine, Whole, whole-reached}
 use Rattle.program_table.specs.Checking.{endHeld, Ending}
 
 -- A part that lies in a table ends there where the entries say

@@ -1,12 +1,11 @@
 -- The check of a table's rows, one after the other, against the table that the kinds and operands imply.
 use Prim.Native.Nat.{ℕ, zero, suc, _+_, _-_, _*_, _≤_, _<_}
-use native.Mathlib.Nat.{add-zero, zero-add}
+use native.Mathlib.Nat.{add-zero, zero-add, add-suc}
 use native.Mathlib.Omega.{arith}
-use native.Mathlib.Numerals.{add-one}
 use mathlib.Core.Path.{_≡_, refl, sym, ap, subst, _∙_}
-use mathlib.Core.Logic.{_⊎_, inl, inr}
+use mathlib.Core.Logic.{_⊎_}
 use mathlib.Core.Bool.{Bool, true, false, not, _&&_}
-use mathlib.Core.List.{List, [], _∷_}
+use mathlib.Core.List.{List, _∷_}
 use lib.Dec.{eqb, ltb}
 use lib.ListN.{length, getD, drop}
 use borrow.Author.Tests.{not-true, not-false, eqb-true, eq-eqb, ne-eqb, ltb-true, ltb-false}
@@ -15,7 +14,7 @@ use Rattle.base.proofs.Lists.{and-left, and-right}
 use Rattle.base.proofs.Stores.{bytes-all}
 use Rattle.meaning.specs.declared.Entry.{Entry}
 use Rattle.meaning.specs.declared.Form.the-variants.{Table}
-use Rattle.meaning.specs.Sizes.{noPart, headerLength, rowLength, lengthOf, bytesAt}
+use Rattle.meaning.specs.Sizes.{noPart, headerLength, rowLength, bytesAt}
 use Rattle.meaning.specs.Kinds.{kindOf}
 use Rattle.meaning.specs.Tree.{Part}
 use Rattle.meaning.specs.Program.{parts, variables, clocks, entryAt, entries}
@@ -28,9 +27,13 @@ use Rattle.program_part.specs.Held.{Held}
 use Rattle.program_walk.proofs.Entries.{entries-at}
 use Rattle.program_table.specs.declared.checking.Links.{Links}
 use Rattle.program_table.specs.Checking.{Ending, ParentsAgree, linksIn, rowByte, byteIs, rowIs, rowsAre}
-use Rattle.program_table.proofs.Matches.{all-step, all-fails, all-end}
-use Rattle.program_table.proofs.TableRows.{all-same}
+use Rattle.base.proofs.Loops.{all-step, all-fails, all-end}
 use Rattle.program_table.proofs.Around.{parent-before, within-first, within-up, within-found, next-implied}
+
+-- a test of bytes one by one is a comparison of the bytes
+all-same : (f : ℕ → Bool) (xs t : List ℕ) (k : ℕ) → ((j : ℕ) → f j ≡ eqb (getD xs j 0) (getD t (k + j) 0)) → (i n : ℕ) → allFrom f i n ≡ same (bytesAt xs i n) (bytesAt t (k + i) n)
+all-same f xs t k h i zero = refl
+all-same f xs t k h i (suc n) = rw (h i, all-same f xs t k h (suc i) n, add-suc k i)
 
 -- The table that is implied: it is one, and holds the entries that t holds
 module _ (t : List ℕ) (ending : Ending t) where

@@ -1,8 +1,6 @@
 pub mod Entries
 pub mod Standing
-pub mod Storing
 pub mod Numbers
 pub mod Machine
 pub mod Ending
 pub mod Walking
-pub mod Forests

@@ -1,16 +1,16 @@
 -- The tests that go over places in turn: what a turn and the end of the loop make of what has passed and what is left, and which of the clauses on a record they are.
 use Prim.Native.Nat.{ℕ, zero, suc, _+_, _-_, _*_, _<_, _≤_}
 use mathlib.Core.Path.{_≡_, refl, sym, _∙_}
-use mathlib.Core.Bool.{Bool, true, false, not, _&&_, and-true, and-assoc}
+use mathlib.Core.Bool.{Bool, true, false, not, _&&_}
 use mathlib.Core.List.{List}
 use native.Mathlib.Nat.{zero-add, sub-zero}
-use native.Mathlib.Numerals.{add-one}
 use native.Mathlib.Omega.{arith}
 use lib.Dec.{eqb, leb}
 use lib.ListN.{length, getD}
 use borrow.Author.Tests.{not-true, not-false, leb-true, le-leb, eqb-true, eq-eqb, ne-eqb}
 use Rattle.base.specs.Lists.{all, allFrom, bytesAt, tabulate}
 use Rattle.base.proofs.Lists.{both-true, getD-tabulate}
+use Rattle.base.proofs.Loops.{all-next}
 use Rattle.base.proofs.Stores.{getD-bytes, bytes-all}
 use Rattle.meaning.specs.Sizes.{timeWidth, maxVariables, maxClocks, maxParts, maxValue}
 use Rattle.meaning.specs.Program.{parts, variables, clocks}
@@ -20,18 +20,6 @@ use Rattle.meaning.specs.Cycle.{estimateAllowed}
 use Rattle.meaning.proofs.Tables.{table-held}
 use Rattle.run_record.proofs.Marks.{marks-inside}
 use Rattle.run_allowed.specs.Places.{atMost, clockAt}
-
--- the loop: what has passed so far, and what is left, are the whole
-module _ (f : ℕ → Bool) (i e : ℕ) where
-  pub all-next : (a b x : Bool) → i < e → b ≡ f i → (a && allFrom f i (e - i)) ≡ x → ((a && b) && allFrom f (i + 1) (e - (i + 1))) ≡ x
-  all-next a b x h b-is inv =
-      let k : e - i ≡ suc (e - (i + 1)) = omega arith in
-      rw (b-is, add-one, and-assoc) (rw (k, add-one) at inv)
-
-  pub all-ends : (a x : Bool) → e ≤ i → (a && allFrom f i (e - i)) ≡ x → a ≡ x
-  all-ends a x h inv =
-      let k : e - i ≡ 0 = omega arith in
-      rw (k, and-true) at inv
 
 pub byte-next : (r : List ℕ) (most i e : ℕ) (a x : Bool) → i < e → (a && allFrom (atMost r most) i (e - i)) ≡ x → ((a && leb (getD r i 0) most) && allFrom (atMost r most) (i + 1) (e - (i + 1))) ≡ x
 unfolding atMost

@@ -1,7 +1,4 @@
 // Beginning a run: a record in which the root, and what begins with it, is marked.
-pub mod initialise;
-
-use crate::initialise::initialise;
 use base::copy_inside;
 use base::fill;
 use meaning::Answer;
@@ -11,6 +8,7 @@ use meaning::sizes::MARKS_PLACE;
 use meaning::sizes::RECORD;
 use program_table::is_table;
 use run_allowed::values::estimate_allowed;
+use run_marks::initialise::initialise;
 ghost use mathlib.Core.Path.{_≡_};
 ghost use lib.ListN.{length};
 ghost use Rattle.meaning.specs.Cycle.{beginRefusal, begunInto};

@@ -1,3 +1,4 @@
+pub mod Initialising
 pub mod Lowest
 pub mod Judged
 pub mod Settling

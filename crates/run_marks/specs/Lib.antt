@@ -1,2 +1,3 @@
+pub mod Initialising
 pub mod Lowest
 pub mod Settling

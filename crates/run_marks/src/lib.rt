@@ -1,3 +1,5 @@
-// The marks that a settling leaves: the fate of each marked part, and the marks after it.
+// The marks of a run: those that initialising a part sets, and those that a settling leaves, by the
+// fate of each marked part.
 pub mod fates;
+pub mod initialise;
 pub mod settled;

@@ -2,6 +2,7 @@
 // part is settled before it. Marks before the settling are read from the record and those after it
 // are written to a list of their own, so that a part marked by this settling is not judged by it.
 use crate::fates::fate;
+use crate::initialise::initialise;
 use base::store;
 use base::wide;
 use meaning::Fate;
@@ -12,7 +13,6 @@ use program_part::held::end_at;
 use program_part::held::next_at;
 use program_part::held::parts;
 use program_walk::walker::entry_at;
-use run_begin::initialise::initialise;
 use run_record::fields::is_marked;
 ghost use mathlib.Core.Path.{_≡_};
 ghost use mathlib.Core.Logic.{_⊎_};

@@ -1,7 +1,7 @@
 -- `is_table` meets its contract: bytes that pass each test are the table of the program that they hold.
 use borrow.Author.Needs.{needs}
 use Rattle.program_refusals.proofs.Refusals.{some-part}
-use Rattle.program_table.proofs.Operations.{table-short, table-sized, table-long, ends-refused, ends-found, rows-decide}
+use Rattle.program_table.proofs.TableChecks.{table-short, table-sized, table-long, ends-refused, ends-found, rows-decide}
 use Rattle.program_table.proofs.is_table.Statement.{statement}
 use Rattle.program_table.proofs.is_table.Tie as tie
 

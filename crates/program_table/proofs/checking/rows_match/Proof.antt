@@ -1,13 +1,13 @@
 -- `rows_match` meets its contract: the rows before the one at hand are those implied, and the ones that are left decide; so do the bytes of a row.
 use Prim.Native.Nat.{_-_, _<_}
 use native.Mathlib.Omega.{arith}
-use mathlib.Core.Path.{_≡_, refl, sym, _∙_}
+use mathlib.Core.Path.{_≡_, refl, _∙_}
 use mathlib.Core.Bool.{true}
 use borrow.Author.Needs.{needs}
 use Rattle.meaning.specs.Sizes.{rowLength}
 use Rattle.base.specs.Lists.{allFrom}
 use Rattle.program_table.specs.Checking.{byteIs, rowIs}
-use Rattle.program_table.proofs.Matches.{all-step, all-fails, all-end}
+use Rattle.base.proofs.Loops.{all-step, all-fails, all-end}
 use Rattle.program_table.proofs.RowChecks.{row-first, byte-agrees, byte-differs, Comparing, rows-first, root-differs, rows-next, rows-differ, rows-end}
 use Rattle.program_table.proofs.checking.rows_match.Statement.{statement}
 use Rattle.program_table.proofs.checking.rows_match.Tie as tie

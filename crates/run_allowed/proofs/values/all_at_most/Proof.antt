@@ -5,7 +5,8 @@ use mathlib.Core.Bool.{_&&_}
 use borrow.Author.Needs.{needs}
 use Rattle.base.specs.Lists.{allFrom}
 use Rattle.run_allowed.specs.Places.{atMost}
-use Rattle.run_allowed.proofs.Places.{byte-next, all-ends}
+use Rattle.base.proofs.Loops.{all-ends}
+use Rattle.run_allowed.proofs.Places.{byte-next}
 use Rattle.run_allowed.proofs.values.all_at_most.Statement.{statement}
 use Rattle.run_allowed.proofs.values.all_at_most.Tie as tie
 

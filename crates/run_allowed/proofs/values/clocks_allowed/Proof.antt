@@ -6,7 +6,8 @@ use borrow.Author.Needs.{needs}
 use Rattle.meaning.specs.Record.{clocksAllowed}
 use Rattle.base.specs.Lists.{allFrom}
 use Rattle.run_allowed.specs.Places.{clockAt}
-use Rattle.run_allowed.proofs.Places.{all-next, all-ends, clock-inside, clocks-made}
+use Rattle.base.proofs.Loops.{all-next, all-ends}
+use Rattle.run_allowed.proofs.Places.{clock-inside, clocks-made}
 use Rattle.run_allowed.proofs.values.clocks_allowed.Statement.{statement}
 use Rattle.run_allowed.proofs.values.clocks_allowed.Tie as tie
 

@@ -1,0 +1,21 @@
+-- `begins` meets its contract: the kind of p's parent decides.
+use borrow.Author.Needs.{needs}
+use Rattle.program_part.proofs.Places.{row-held}
+use Rattle.run_marks.proofs.Initialising.{parent-held, begins-made}
+use Rattle.run_marks.proofs.initialise.begins.Statement.{statement}
+use Rattle.run_marks.proofs.initialise.begins.Tie as tie
+
+parent-at-requires : tie.Need-parent-at-requires
+parent-at-requires c κs = search row-held
+
+entry-at-requires : tie.Need-entry-at-requires
+entry-at-requires c κs = search parent-held
+
+begins-in-requires : tie.Need-begins-in-requires
+begins-in-requires c κs = search needs
+
+returns : tie.Need-returns
+returns c = search begins-made
+
+pub begins-spec : {M : Type 1} → statement M
+begins-spec = tie.close (tie.spec parent-at-requires entry-at-requires begins-in-requires returns)
