@@ -14,7 +14,7 @@ use Rattle.base.specs.Lists.{all, firstFailing, bytesAt}
 use Rattle.base.proofs.Lists.{and-left, and-right, cond-map, cond-same, none-fails, all-replicate}
 use Rattle.base.proofs.Stores.{bytes-sets}
 use Rattle.meaning.specs.declared.Form.the-variants.{File}
-use Rattle.meaning.specs.Sizes.{maxValue, noPart, timeWidth}
+use Rattle.meaning.specs.Sizes.{maxValue, noPart, timeWidth, timeLimit}
 use Rattle.meaning.specs.Tree.{Part, size}
 use Rattle.meaning.specs.Program.{variables, clocks, parts, allowedEntry, Within}
 use Rattle.meaning.specs.Table.{tableOf, compiled, isTable}
@@ -193,7 +193,7 @@ module _ (v k : ℕ) (p : Part) (w : Within v k p) where
     now-held = held phase time est started starts (some r) more
 
     -- after an offer
-    module _ (now : ℕ) (fits-now : now < 256 ^ timeWidth) (later : time ≤ now) where
+    module _ (now : ℕ) (fits-now : now < timeLimit) (later : time ≤ now) where
       abbrev at-now : Situation
       at-now = judged est started starts now
 
@@ -253,13 +253,13 @@ module _ (v k : ℕ) (p : Part) (w : Within v k p) where
     here = stateOf phase time est started starts (some r)
 
     -- the goal bytes that an offer leaves in the buffer
-    offered-goals : (now : ℕ) → now < 256 ^ timeWidth → time ≤ now → (buffer : List ℕ) → v ≤ length buffer
+    offered-goals : (now : ℕ) → now < timeLimit → time ≤ now → (buffer : List ℕ) → v ≤ length buffer
         → bytesAt (sets buffer 0 (offeredGoals t (heldIn here more) now)) 0 (variables t) ≡ goalBytes v (working p (check (judged est started starts now) p r))
     offered-goals now f later buffer room =
         rw (offered-leaves phase time est started starts r g more now f later, variables-are)
         (bytes-sets (goalBytes v (working p (check (judged est started starts now) p r))) buffer 0 v (length-goals v (working p (check (judged est started starts now) p r))) (omega arith))
 
-    offer-accepted : (now : ℕ) → now < 256 ^ timeWidth → (buffer : List ℕ) → refusalOf p v here (offering now (length buffer)) ≡ 0 → Stepped (heldIn here more) here more (offer now buffer)
+    offer-accepted : (now : ℕ) → now < timeLimit → (buffer : List ℕ) → refusalOf p v here (offering now (length buffer)) ≡ 0 → Stepped (heldIn here more) here more (offer now buffer)
     unfolding treeReply treeNext offeredInto goalsInto
     offer-accepted now f buffer z =
         let e : offerRefusal t (heldIn here more) now (length buffer) ≡ 0 = offer-refusal phase time est started starts more (some r) g now (length buffer) ∙ z in
@@ -298,7 +298,7 @@ module _ (v k : ℕ) (p : Part) (w : Within v k p) where
 
   -- One call, whatever it is
   abbrev Timely : Call → Type 0
-  Timely (offer now buffer) = now < 256 ^ timeWidth
+  Timely (offer now buffer) = now < timeLimit
   Timely (settling new) = Unit {0}
 
   -- a run that has ended refuses every call

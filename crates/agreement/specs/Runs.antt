@@ -9,7 +9,7 @@ use lib.Dec.{eqb, leb}
 use lib.ListN.{length, getD, replicate}
 use Rattle.base.specs.Lists.{all, firstFailing, bytesAt}
 use Rattle.meaning.specs.declared.Entry.{Entry}
-use Rattle.meaning.specs.Sizes.{maxValue}
+use Rattle.meaning.specs.Sizes.{maxValue, timeLimit}
 use Rattle.meaning.specs.Tree.{Part}
 use Rattle.meaning.specs.declared.Form.the-variants.{File}
 use Rattle.meaning.specs.Program.{variables, clocks, treeOf, programRefusal}
@@ -210,7 +210,7 @@ pub record Alike (t r : List ℕ) (p : Part) (v k : ℕ) (st : State p) (cs : Li
 -- each offer's time is one of 32 bits
 abbrev pub Timed : List Call → Type 0
 Timed [] = Unit {0}
-Timed (offer time buffer ∷ cs) = (time < 2 ^ 32) × Timed cs
+Timed (offer time buffer ∷ cs) = (time < timeLimit) × Timed cs
 Timed (settling est ∷ cs) = Timed cs
 
 -- Demand 3 for a program file, a first estimate, a record buffer and a list of calls: reading gives a tree; a beginning is refused by 13 or 8

@@ -10,6 +10,7 @@ use lib.ListN.{length, getD, drop, set, length-append, length-drop, drop-of-leng
 use lib.Seq.{drop-cons}
 use borrow.Author.Tests.{lt-ltb, le-ltb}
 use Rattle.base.specs.Lists.{nonempty}
+use Rattle.meaning.specs.Sizes.{numberLimit}
 use Rattle.meaning.specs.declared.Entry.{Entry}
 use Rattle.meaning.specs.declared.Form.the-variants.{Table}
 use Rattle.meaning.specs.Program.{parts, entryAt, operandBytes}
@@ -104,7 +105,7 @@ unfolding rowLines
 rows-fit t p n = texts-fit (rowLine t) (9 * (maxDigits + 1)) p n (λ q. omega (arith, line-fits (rowNumbers t q)))
 
 -- The line of the sizes, and then the rows
-pub table-room : (t ns : List ℕ) (j : ℕ) → ns ≡ sizeNumbers t → j ≡ 0 + length (line ns) → parts t < 256 → j + length (rowLines t 0 (parts t)) < 2 ^ 64
+pub table-room : (t ns : List ℕ) (j : ℕ) → ns ≡ sizeNumbers t → j ≡ 0 + length (line ns) → parts t < numberLimit → j + length (rowLines t 0 (parts t)) < 2 ^ 64
 table-room t ns j e a h = omega (arith, line-fits ns, ap length e, rows-fit t 0 (parts t))
 
 pub table-written : (t ns l m o : List ℕ) (j k : ℕ) → ns ≡ sizeNumbers t → Written (line ns) l 0 m j → Written (rowLines t 0 (parts t)) m j o k → Written (tableText t) l 0 o k

@@ -9,6 +9,7 @@ use lib.ListN.{length, take}
 use borrow.Author.Tests.{not-true, not-false}
 use Rattle.base.specs.Lists.{bytesAt}
 use Rattle.base.proofs.Stores.{length-bytes}
+use Rattle.meaning.specs.Sizes.{byteValues, numberLimit}
 use Rattle.meaning.specs.Program.{parts, variables}
 use Rattle.desk_format.specs.Writing.{Written}
 use Rattle.desk_format.proofs.Texts.{written-append}
@@ -34,7 +35,7 @@ module _ (asked : Bool) (t r out : List ℕ) (turn : Turn) where
   under-written out' n h w = rw (not-false asked h) (record { written = w; cycles-are = refl; ends-is = refl })
 
 -- a table's sizes are bytes, so what a line comes to fits with the parts under it
-module _ (t r r' : List ℕ) (n : ℕ) (few : parts t < 256) (narrow : variables t < 256) where
+module _ (t r r' : List ℕ) (n : ℕ) (few : parts t < numberLimit) (narrow : variables t < byteValues) where
   abbrev Fits : Bool → List ℕ → Type 0
   Fits asked text = length text + length (partsUnder asked t r') ≤ maxAnswer
 
@@ -66,7 +67,7 @@ module _ (t r line bytes : List ℕ) (cycles number k : ℕ) (x : Line) (asked b
   length-is : turn .length ≡ length (z .text)
   length-is = z .written .after ∙ zero-add (length (z .text))
 
-  module _ (few : parts t < 256) (narrow : variables t < 256) where
+  module _ (few : parts t < numberLimit) (narrow : variables t < byteValues) where
     fits : turn .length + length (partsUnder (asked && b) t r') ≤ maxAnswer
     fits = rw (length-is, b-is) (told-fits t r r' number few narrow x (bytesOf line) (z .text) asked told)
 

@@ -7,6 +7,7 @@ use mathlib.Core.List.{List, [], _++_}
 use lib.Dec.{eqb}
 use lib.ListN.{length, getD}
 use Rattle.base.proofs.Stores.{length-bytes}
+use Rattle.meaning.specs.Sizes.{byteValues, numberLimit}
 use Rattle.meaning.specs.Program.{parts, variables, clocks}
 use Rattle.meaning.specs.Record.{estimatePlace, phaseOf, lastTime, estimateIn, startedIn, startsIn, marksIn, finished, isMark}
 use Rattle.desk_format.specs.Decimal.{maxDigits, decimal}
@@ -36,7 +37,7 @@ unfolding marksText
 parts-fit t r = omega (arith, three-length (parts-pieces t r), texts-fit (partText t r) (1 + maxDigits) 0 (parts t) (part-fits t r))
 
 -- An answer with the parts under it
-module _ (t r : List ℕ) (n : ℕ) (few : parts t < 256) where
+module _ (t r : List ℕ) (n : ℕ) (few : parts t < numberLimit) where
   pub refused-fits : length (refusedText n) + length (partsText t r) ≤ maxAnswer
   refused-fits = omega (arith, refused-short n, parts-fit t r)
 
@@ -46,7 +47,7 @@ module _ (t r : List ℕ) (n : ℕ) (few : parts t < 256) where
   pub settled-fits : length (settledText n) + length (partsText t r) ≤ maxAnswer
   settled-fits = omega (arith, settled-short n, parts-fit t r)
 
-  pub offered-fits : (goals : List ℕ) → length goals < 256 → length (offeredText n goals) + length (partsText t r) ≤ maxAnswer
+  pub offered-fits : (goals : List ℕ) → length goals < byteValues → length (offeredText n goals) + length (partsText t r) ≤ maxAnswer
   offered-fits goals l = omega (arith, offered-long n goals, parts-fit t r)
 
 -- The summary
@@ -68,7 +69,7 @@ finishing-fits : (r : List ℕ) (cycles : ℕ) → length (finishingText r cycle
 unfolding finishingText
 finishing-fits r cycles = either-fits (eqb (phaseOf r) finished) (numbered (word "finishing cycle ") cycles) (word "finishing cycle -\n") (16 + maxDigits + 1) (numbered-fits (word "finishing cycle ") cycles) (omega arith)
 
-pub summary-fits : (t r : List ℕ) (cycles : ℕ) → variables t < 256 → clocks t < 256 → length (summaryText t r cycles) ≤ maxSummary
+pub summary-fits : (t r : List ℕ) (cycles : ℕ) → variables t < byteValues → clocks t < byteValues → length (summaryText t r cycles) ≤ maxSummary
 summary-fits t r cycles v k =
     omega (
       arith,

@@ -2,11 +2,13 @@
 use base::at;
 use base::wide;
 use meaning::Number;
+use meaning::index;
 use meaning::sizes::MARKS_PLACE;
 use meaning::sizes::STARTED_PLACE;
 use meaning::sizes::STARTS_PLACE;
 use meaning::sizes::TIME;
 use meaning::sizes::TIME_PLACE;
+use meaning::sizes::UNMARKED;
 use run_record::fields::time_of;
 ghost use mathlib.Core.Path.{_≡_};
 ghost use Prim.Native.Nat.{_+_, _*_, _<_};
@@ -45,5 +47,5 @@ pub(crate) fn start_of(r: &[u8], c: u8) -> u32
 pub(crate) fn is_marked(r: &[u8], p: Number) -> bool
     ensures { λ b. ⌜ b ≡ isMark (getD (now (r .entry)) (marksPlace + p) 0) ⌝ }
 {
-    at(r, MARKS_PLACE + wide(p)) != 0
+    at(r, MARKS_PLACE + index(p)) != UNMARKED
 }

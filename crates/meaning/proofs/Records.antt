@@ -13,7 +13,7 @@ use Rattle.base.specs.Lists.{sum, join, flat, all, any, tabulate, flag, bytesAt
 use Rattle.base.proofs.Lists.{and-left, and-right, each-passes, Passed, none-fails, cond-map, cond-same, length-pieces, length-tabulate, getD-tabulate, all-tabulate, all-replicate}
 use Rattle.base.proofs.Stores.{length-bytes, sets-start, drop-front, bytes-front, drop-join, sets-join, bytes-join}
 use Rattle.meaning.specs.declared.Entry.{Entry}
-use Rattle.meaning.specs.Sizes.{maxParts, maxVariables, maxClocks, maxValue, timeWidth, littleEndian, valueFrom}
+use Rattle.meaning.specs.Sizes.{maxParts, maxVariables, maxClocks, maxValue, timeWidth, littleEndian, valueFrom, byteValues, timeLimit}
 use Rattle.meaning.specs.Program.{parts, variables, clocks}
 use Rattle.meaning.specs.Table.{insideOf, isTable}
 use Rattle.meaning.specs.Conditions.{Situation}
@@ -28,18 +28,18 @@ pub value-back : (w x : ℕ) → x < 256 ^ suc w → valueFrom (x % 256) (little
 value-back zero x h = omega arith
 value-back (suc w) x h = rw (value-back w (x / 256) (omega arith)) (omega arith)
 
-pub value-of : (w x b : ℕ) (bs : List ℕ) → b ∷ bs ≡ littleEndian (suc w) x → x < 256 ^ suc w → valueFrom b bs ≡ x
+pub value-of : (w x b : ℕ) (bs : List ℕ) → b ∷ bs ≡ littleEndian (suc w) x → x < byteValues ^ suc w → valueFrom b bs ≡ x
 value-of w x b bs e h =
-    let p : b ≡ x % 256 = cc in
-    let q : bs ≡ littleEndian w (x / 256) = cc in
+    let p : b ≡ x % byteValues = cc in
+    let q : bs ≡ littleEndian w (x / byteValues) = cc in
     rw (p, q) (value-back w x h)
 
 -- a time is read back from where its bytes stand
-pub time-back : (r : List ℕ) (i x : ℕ) → bytesAt r i timeWidth ≡ littleEndian timeWidth x → x < 256 ^ timeWidth → timeAt r i ≡ x
+pub time-back : (r : List ℕ) (i x : ℕ) → bytesAt r i timeWidth ≡ littleEndian timeWidth x → x < timeLimit → timeAt r i ≡ x
 time-back r i x e h = value-of (timeWidth - 1) x (getD r i 0) (bytesAt r (suc i) (timeWidth - 1)) e h
 
 -- times are read back from where they stand one after the other
-pub times-back : (r xs rest : List ℕ) (k c : ℕ) → drop (k + timeWidth * c) r ≡ flat (littleEndian timeWidth) xs ++ rest → ((i : ℕ) → i < length xs → getD xs i 0 < 256 ^ timeWidth) → tabulate (λ i. timeAt r (k + timeWidth * i)) c (length xs) ≡ xs
+pub times-back : (r xs rest : List ℕ) (k c : ℕ) → drop (k + timeWidth * c) r ≡ flat (littleEndian timeWidth) xs ++ rest → ((i : ℕ) → i < length xs → getD xs i 0 < timeLimit) → tabulate (λ i. timeAt r (k + timeWidth * i)) c (length xs) ≡ xs
 times-back r [] rest k c e h = refl
 times-back r (x ∷ xs) rest k c e h =
     let a : timeAt r (k + timeWidth * c) ≡ x = time-back r (k + timeWidth * c) x (bytes-front r (littleEndian timeWidth x) (flat (littleEndian timeWidth) xs ++ rest) (k + timeWidth * c) e) (h 0 (omega arith)) in
@@ -63,8 +63,8 @@ pub record Shaped (t est started starts marks : List ℕ) : Type 0 where
 -- and its times have their width
 pub record Fits (t : List ℕ) (time : ℕ) (est started starts marks : List ℕ) : Type 0 where
   pub shape : Shaped t est started starts marks
-  pub time-fits : time < 256 ^ timeWidth
-  pub starts-fit : (c : ℕ) → c < clocks t → getD starts c 0 < 256 ^ timeWidth
+  pub time-fits : time < timeLimit
+  pub starts-fit : (c : ℕ) → c < clocks t → getD starts c 0 < timeLimit
 
 -- the bytes of a record and the bytes after it, piece by piece, and how long the pieces are
 abbrev pieces : List ℕ → ℕ → ℕ → List ℕ → List ℕ → List ℕ → List ℕ → List ℕ → List (List ℕ)
@@ -263,7 +263,7 @@ judged est started starts time = record { estimate = est; started = started; sta
 -- One cycle
 module _ {t : List ℕ} {time : ℕ} {est started starts marks : List ℕ} (fits : Fits t time est started starts marks) where
   -- what it holds after an offer
-  pub offered-fits : (now : ℕ) → now < 256 ^ timeWidth → Fits t now est started starts (checkedFrom t (judged est started starts now) 0 marks 0)
+  pub offered-fits : (now : ℕ) → now < timeLimit → Fits t now est started starts (checkedFrom t (judged est started starts now) 0 marks 0)
   offered-fits now h = record { shape = omega (arith, length-checked t (judged est started starts now) 0 marks 0); time-fits = h; starts-fit = fits .starts-fit }
 
   -- what it holds after a settling
@@ -280,7 +280,7 @@ module _ {t : List ℕ} {time : ℕ} {est started starts marks : List ℕ} (fits
           parts-fit = fits .shape .parts-fit;
         };
         time-fits = fits .time-fits;
-        starts-fit = starts-below (clocks t) (leavesFrom t 0 marks) started starts time (256 ^ timeWidth) (fits .starts-fit) (fits .time-fits);
+        starts-fit = starts-below (clocks t) (leavesFrom t 0 marks) started starts time (timeLimit) (fits .starts-fit) (fits .time-fits);
       }
 
 module _ {t : List ℕ} {time : ℕ} {est started starts marks : List ℕ} (fits : Fits t time est started starts marks) (phase : ℕ) (more : List ℕ) where

@@ -5,7 +5,7 @@ use mathlib.Core.List.{List, [], _∷_}
 use lib.Dec.{eqb, leb, ltb}
 use lib.ListN.{getD}
 use Rattle.meaning.specs.declared.Operand.{Operand}
-use Rattle.meaning.specs.Sizes.{maxValue}
+use Rattle.meaning.specs.Sizes.{byteValues, maxValue}
 
 pub data Kind : Type 0 where
   UNKNOWN GOAL START WAIT SEQ PAR MAINTAIN CHOICE REPEAT : Kind
@@ -41,7 +41,7 @@ known REPEAT = true
 
 -- Of an operand's 4 bytes, b2 and b3 are one 16-bit value
 abbrev pub value : Operand → ℕ
-value o = o .b2 + 256 * o .b3
+value o = o .b2 + byteValues * o .b3
 
 -- "Children"
 unfoldable pub arity : Kind → Operand → ℕ

@@ -23,17 +23,28 @@ maxDepth = 16
 abbrev pub maxValue : ℕ
 maxValue = 250
 
--- How many bytes hold a number of parts or a part's number
+-- How many values a byte has
+abbrev pub byteValues : ℕ
+byteValues = 256
+
+-- How many bytes hold a number of parts or a part's number; such numbers are below `numberLimit`
 abbrev pub numberWidth : ℕ
 numberWidth = 1
 
+abbrev pub numberLimit : ℕ
+numberLimit = byteValues ^ numberWidth
+
 -- "255 stands for no parent or no next": the largest number of that width
 abbrev pub noPart : ℕ
-noPart = 256 ^ numberWidth - 1
+noPart = numberLimit - 1
 
--- The three sizes, an operand, and a row: kind, end, parent, next, operand
+-- The three sizes: a number of parts, and a byte each for the numbers of variables and of clocks
 abbrev pub headerLength : ℕ
 headerLength = numberWidth + 2
+
+-- A kind, an operand, and a row: kind, end, parent, next, operand
+abbrev pub kindLength : ℕ
+kindLength = 1
 
 abbrev pub operandLength : ℕ
 operandLength = 4
@@ -42,11 +53,21 @@ abbrev pub linksLength : ℕ
 linksLength = 3 * numberWidth
 
 abbrev pub rowLength : ℕ
-rowLength = 1 + linksLength + operandLength
+rowLength = kindLength + linksLength + operandLength
+
+-- Where a part's end, parent and next stand in its row
+abbrev pub endPlace : ℕ
+endPlace = kindLength
+
+abbrev pub parentPlace : ℕ
+parentPlace = endPlace + numberWidth
+
+abbrev pub nextPlace : ℕ
+nextPlace = parentPlace + numberWidth
 
 -- Length 3 + 5 × N for a file, 3 + 8 × N for a table
 abbrev pub lengthOf : Form → ℕ → ℕ
-lengthOf File n = headerLength + (1 + operandLength) * n
+lengthOf File n = headerLength + (kindLength + operandLength) * n
 lengthOf Table n = headerLength + rowLength * n
 
 -- Where part p's kind byte stands, and the first byte of its operand
@@ -56,20 +77,23 @@ kindPlace Table n p = headerLength + rowLength * p
 
 abbrev pub operandPlace : Form → ℕ → ℕ → ℕ
 operandPlace File n p = headerLength + n + operandLength * p
-operandPlace Table n p = headerLength + rowLength * p + (1 + linksLength)
+operandPlace Table n p = headerLength + rowLength * p + (kindLength + linksLength)
 
 -- "Numbers of several bytes have their low byte first"
 abbrev pub littleEndian : ℕ → ℕ → List ℕ
 littleEndian zero x = []
-littleEndian (suc w) x = (x % 256) ∷ littleEndian w (x / 256)
+littleEndian (suc w) x = (x % byteValues) ∷ littleEndian w (x / byteValues)
 
 abbrev pub valueFrom : ℕ → List ℕ → ℕ
 valueFrom b [] = b
-valueFrom b (c ∷ cs) = b + 256 * valueFrom c cs
+valueFrom b (c ∷ cs) = b + byteValues * valueFrom c cs
 
--- "Times are whole seconds of 32 bits"
+-- "Times are whole seconds of 32 bits", below `timeLimit`
 abbrev pub timeWidth : ℕ
 timeWidth = 4
+
+abbrev pub timeLimit : ℕ
+timeLimit = byteValues ^ timeWidth
 
 -- A part's number as bytes, and the number that stands at place i of s
 abbrev pub numberBytes : ℕ → List ℕ

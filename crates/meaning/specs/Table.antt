@@ -10,7 +10,7 @@ use Rattle.base.specs.Lists.{sum, flat, nonempty, same, firstFailing}
 use Rattle.meaning.specs.declared.Operand.{Operand}
 use Rattle.meaning.specs.declared.Form.{Form}
 use Rattle.meaning.specs.declared.Form.the-variants.{File, Table}
-use Rattle.meaning.specs.Sizes.{numberWidth, noPart, headerLength, rowLength, lengthOf, numberBytes, bytesAt, numberAt}
+use Rattle.meaning.specs.Sizes.{noPart, headerLength, endPlace, parentPlace, nextPlace, rowLength, lengthOf, numberBytes, bytesAt, numberAt}
 use Rattle.meaning.specs.Kinds.{Kind, UNKNOWN, GOAL, START, WAIT, SEQ, PAR, MAINTAIN, CHOICE, REPEAT, kindOf, numberOf}
 use Rattle.meaning.specs.Tree.{Part, fold, size}
 use Rattle.meaning.specs.Program.{parts, variables, clocks, sizeBytes, operandBytes, entryAt, entries, arrays, treeOf, programRefusal}
@@ -79,13 +79,13 @@ compiled form s = tableFor (variables s) (clocks s) (treeOf form s)
 
 -- What row p of a table has for its part's end, parent and next
 abbrev pub endAt : List ℕ → ℕ → ℕ
-endAt t p = numberAt t (headerLength + rowLength * p + 1)
+endAt t p = numberAt t (headerLength + rowLength * p + endPlace)
 
 abbrev pub parentAt : List ℕ → ℕ → ℕ
-parentAt t p = numberAt t (headerLength + rowLength * p + (1 + numberWidth))
+parentAt t p = numberAt t (headerLength + rowLength * p + parentPlace)
 
 abbrev pub nextAt : List ℕ → ℕ → ℕ
-nextAt t p = numberAt t (headerLength + rowLength * p + (1 + 2 * numberWidth))
+nextAt t p = numberAt t (headerLength + rowLength * p + nextPlace)
 
 abbrev pub kindAt : List ℕ → ℕ → Kind
 kindAt t p = kindOf (entryAt Table t p .kind)

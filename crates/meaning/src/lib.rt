@@ -1,5 +1,6 @@
 // What a program file and its location table mean. The definitions stand in specs/, their laws in
 // proofs/; the types here are those that the definitions share with the code.
+pub mod kinds;
 pub mod sizes;
 
 use crate::sizes::ANSWERED;
@@ -9,6 +10,13 @@ ghost use Rattle.meaning.specs.Answers.{refusalNumber, answerNumber, off
 
 // A part's number, or a count of parts.
 pub type Number = u8;
+
+// A part's number as an index.
+pub fn index(p: Number) -> usize
+    ensures { λ i. ⌜ i ≡ p ⌝ }
+{
+    p as usize
+}
 
 // Where a program is held: in a program file or in a location table.
 pub enum Form {

@@ -9,8 +9,8 @@ use Rattle.base.specs.Lists.{flat}
 use Rattle.base.proofs.Stores.{sets-append}
 use Rattle.meaning.specs.declared.Entry.{Entry}
 use Rattle.meaning.specs.declared.Form.{Form}
-use Rattle.meaning.specs.Sizes.{headerLength}
-use Rattle.meaning.specs.declared.Form.the-variants.{Table}
+use Rattle.meaning.specs.Sizes.{kindPlace, operandPlace}
+use Rattle.meaning.specs.declared.Form.the-variants.{File, Table}
 use Rattle.meaning.specs.Program.{parts, operandBytes, entryAt, entries, kindByte, entryOperand}
 use Rattle.program_walk.proofs.Entries.{entries-next, entries-past}
 
@@ -23,11 +23,11 @@ module _ (f : Entry → List ℕ) (form : Form) (s l w : List ℕ) (i n p : ℕ)
   pub entry-end : n ≤ p → l ≡ w
   entry-end h = rw (entries-past form s p (omega arith)) at inv
 
-pub kind-step : (s l m w : List ℕ) (n p k : ℕ) (e : Entry) → n ≡ parts s → sets l (headerLength + p) (flat kindByte (drop p (entries Table s))) ≡ w → p < n → e ≡ entryAt Table s p → k ≡ p → m ≡ set l (3 + k) (e .kind)
-    → sets m (headerLength + (p + 1)) (flat kindByte (drop (p + 1) (entries Table s))) ≡ w
-kind-step s l m w n p k e n-is inv h e-is k-is m-is = entry-step kindByte Table s l w (headerLength + p) n p n-is inv m (headerLength + (p + 1)) e h e-is (rw k-is at m-is) (omega arith)
+pub kind-step : (s l m w : List ℕ) (n p i : ℕ) (e : Entry) → n ≡ parts s → sets l (kindPlace File n p) (flat kindByte (drop p (entries Table s))) ≡ w → p < n → e ≡ entryAt Table s p → i ≡ kindPlace File n p → m ≡ set l i (e .kind)
+    → sets m (kindPlace File n (p + 1)) (flat kindByte (drop (p + 1) (entries Table s))) ≡ w
+kind-step s l m w n p i e n-is inv h e-is i-is m-is = entry-step kindByte Table s l w (kindPlace File n p) n p n-is inv m (kindPlace File n (p + 1)) e h e-is (rw i-is at m-is) (omega arith)
 
-pub operand-step : (s l m w : List ℕ) (n p a k : ℕ) (e : Entry) → n ≡ parts s → sets l (headerLength + n + 4 * p) (flat entryOperand (drop p (entries Table s))) ≡ w → p < n → e ≡ entryAt Table s p → a ≡ n → k ≡ p
-    → m ≡ sets l (3 + a + 4 * k) (operandBytes (e .operand)) → sets m (headerLength + n + 4 * (p + 1)) (flat entryOperand (drop (p + 1) (entries Table s))) ≡ w
-operand-step s l m w n p a k e n-is inv h e-is a-is k-is m-is =
-    entry-step entryOperand Table s l w (headerLength + n + 4 * p) n p n-is inv m (headerLength + n + 4 * (p + 1)) e h e-is (rw (a-is, k-is) at m-is) (omega arith)
+pub operand-step : (s l m w : List ℕ) (n p i : ℕ) (e : Entry) → n ≡ parts s → sets l (operandPlace File n p) (flat entryOperand (drop p (entries Table s))) ≡ w → p < n → e ≡ entryAt Table s p → i ≡ operandPlace File n p
+    → m ≡ sets l i (operandBytes (e .operand)) → sets m (operandPlace File n (p + 1)) (flat entryOperand (drop (p + 1) (entries Table s))) ≡ w
+operand-step s l m w n p i e n-is inv h e-is i-is m-is =
+    entry-step entryOperand Table s l w (operandPlace File n p) n p n-is inv m (operandPlace File n (p + 1)) e h e-is (rw i-is at m-is) (omega arith)

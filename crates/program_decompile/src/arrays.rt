@@ -1,9 +1,8 @@
 // The two arrays of a program file, written from a table's rows where there is room for them.
 use base::store;
-use base::wide;
 use meaning::Form;
-use meaning::sizes::HEADER;
-use meaning::sizes::OPERAND;
+use program_part::held::kind_place;
+use program_part::held::operand_place;
 use program_part::held::parts;
 use program_rows::rows::put_operand;
 use program_walk::walker::entry_at;
@@ -21,9 +20,10 @@ fn write_kinds(table: &[u8], file: &mut [u8])
     requires { ⌜ lengthOf File (parts (now table)) ≤ length (now file) ⌝ }
     ensures { λ _. ⌜ now (file .exit) ≡ sets (now (file .entry)) headerLength (flat kindByte (entries Table (now (table .entry)))) ⌝ }
 {
-    for p in 0..parts(table) {
+    let n = parts(table);
+    for p in 0..n {
         let part = entry_at(table, Form::Table, p);
-        store(file, HEADER + wide(p), part.kind);
+        store(file, kind_place(Form::File, n, p), part.kind);
     }
 }
 
@@ -36,7 +36,7 @@ fn write_operands(table: &[u8], file: &mut [u8])
     for p in 0..n {
         let part = entry_at(table, Form::Table, p);
         let o = part.operand;
-        put_operand(file, HEADER + wide(n) + OPERAND * wide(p), o);
+        put_operand(file, operand_place(Form::File, n, p), o);
     }
 }
 

@@ -8,7 +8,7 @@ use lib.Dec.{ltb, leb}
 use Rattle.meaning.specs.declared.Operand.{Operand}
 use Rattle.meaning.specs.declared.Entry.{Entry}
 use Rattle.meaning.specs.Sizes.{maxValue}
-use Rattle.meaning.specs.Kinds.{Test, kindOf, arity, value, EQUALS, AT-LEAST, testOf, testAllowed, conditionAllowed, countAllowed, operandAllowed}
+use Rattle.meaning.specs.Kinds.{kindOf, arity, value, testOf, testAllowed, conditionAllowed, countAllowed, operandAllowed}
 use Rattle.meaning.specs.Program.{allowedEntry, arityOf}
 use Rattle.program_part.specs.declared.kinds.Children.{Children}
 use Rattle.program_part.specs.declared.kinds.Children.the-variants.{Count, NotAllowed}

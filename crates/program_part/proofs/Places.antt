@@ -1,6 +1,5 @@
 -- Where the entry of a part stands.
-use Prim.Native.Nat.{ℕ, _+_, _*_, _<_, _≤_}
-use native.Mathlib.Nat.{add-zero}
+use Prim.Native.Nat.{ℕ, _+_, _<_, _≤_}
 use native.Mathlib.Omega.{arith}
 use mathlib.Core.Path.{_≡_}
 use mathlib.Core.Bool.{true}
@@ -10,14 +9,14 @@ use Rattle.program_part.specs.Held.{Held}
 use Rattle.meaning.specs.declared.Operand.{Operand}
 use Rattle.meaning.specs.declared.Form.{Form}
 use Rattle.meaning.specs.declared.Form.the-variants.{File, Table}
-use Rattle.meaning.specs.Sizes.{maxParts, headerLength, rowLength, kindPlace, operandPlace}
+use Rattle.meaning.specs.Sizes.{maxParts, operandLength, kindPlace, operandPlace}
 use Rattle.meaning.specs.Program.{parts, operandAt, entryAt}
 use Rattle.meaning.specs.Table.{isTable}
 use Rattle.meaning.proofs.Tables.{table-held}
 
 -- what is read at those places is the entry
-pub entry-held : (form : Form) (s : List ℕ) (n p i j k : ℕ) (o : Operand) → n ≡ parts s → i ≡ kindPlace form n p → k ≡ getD s i 0 → j ≡ operandPlace form n p + 0 → o ≡ operandAt s j → record { kind = k; operand = o } ≡ entryAt form s p
-entry-held form s n p i j k o n-is i-is k-is j-is o-is = rw (o-is, j-is, add-zero, k-is, i-is, n-is)
+pub entry-held : (form : Form) (s : List ℕ) (n p i j k : ℕ) (o : Operand) → n ≡ parts s → i ≡ kindPlace form n p → k ≡ getD s i 0 → j ≡ operandPlace form n p → o ≡ operandAt s j → record { kind = k; operand = o } ≡ entryAt form s p
+entry-held form s n p i j k o n-is i-is k-is j-is o-is = rw (o-is, j-is, k-is, i-is, n-is)
 
 -- the places of an entry that is held
 pub first-inside : (form : Form) (s : List ℕ) (p : ℕ) → Held form s p → 0 < length s
@@ -28,12 +27,9 @@ pub kind-inside : (form : Form) (s : List ℕ) (n p k : ℕ) → Held form s p �
 kind-inside File s n p k h n-is k-is = omega (arith, h .long, h .there)
 kind-inside Table s n p k h n-is k-is = omega (arith, h .long, h .there)
 
-pub operand-inside : (form : Form) (s : List ℕ) (n p j : ℕ) → Held form s p → n ≡ parts s → j ≡ operandPlace form n p + 0 → j + 3 < length s
+pub operand-inside : (form : Form) (s : List ℕ) (n p j : ℕ) → Held form s p → n ≡ parts s → j ≡ operandPlace form n p → j + operandLength ≤ length s
 operand-inside File s n p j h n-is j-is = omega (arith, h .long, h .there)
 operand-inside Table s n p j h n-is j-is = omega (arith, h .long, h .there)
-
-pub link-inside : (t : List ℕ) (p w i j : ℕ) → Held Table t p → i < rowLength → w ≡ p → j ≡ i → headerLength + rowLength * w + j < length t
-link-inside t p w i j h l w-is j-is = omega (arith, h .long, h .there)
 
 -- a table has not too many parts, and holds each of them
 pub parts-fit : (t : List ℕ) → isTable t ≡ true → parts t ≤ maxParts

@@ -1,27 +1,41 @@
 // What stands where in a file and in a table.
 use base::at;
-use base::wide;
 use meaning::Entry;
 use meaning::Form;
 use meaning::Number;
 use meaning::Operand;
+use meaning::index;
+use meaning::sizes::CLOCKS_PLACE;
+use meaning::sizes::END_PLACE;
 use meaning::sizes::HEADER;
-use meaning::sizes::LINKS;
+use meaning::sizes::KIND;
 use meaning::sizes::MAX_CLOCKS;
 use meaning::sizes::MAX_PARTS;
 use meaning::sizes::MAX_VARIABLES;
+use meaning::sizes::NEXT_PLACE;
 use meaning::sizes::OPERAND;
+use meaning::sizes::OPERAND_PLACE;
+use meaning::sizes::PARENT_PLACE;
 use meaning::sizes::ROW;
+use meaning::sizes::VARIABLES_PLACE;
 ghost use mathlib.Core.Path.{_≡_};
 ghost use Prim.Native.Nat.{_+_, _*_, _<_, _≤_};
 ghost use lib.ListN.{length};
 ghost use Rattle.meaning.specs.declared.Form.the-variants.{Table};
 ghost use Rattle.program_part.specs.Held.{Held, sizesIn};
-ghost use Rattle.meaning.specs.Sizes.{headerLength, rowLength, numberAt, lengthOf, kindPlace, operandPlace};
+ghost use Rattle.meaning.specs.Sizes.{numberWidth, headerLength, operandLength, rowLength, numberAt, lengthOf, kindPlace, operandPlace};
 ghost use Rattle.meaning.specs.Program.{parts, variables, clocks, sizesAllowed, operandAt, entryAt};
 ghost use Rattle.meaning.specs.Table.{endAt, parentAt, nextAt, insideOf};
 
-// The number that stands at place i.
+// The number that stands at place i, which is inside.
+pub fn read_number(s: &[u8], i: usize) -> Number
+    requires { ⌜ i + numberWidth ≤ length (now s) ⌝ }
+    ensures { λ r. ⌜ r ≡ numberAt (now (s .entry)) i ⌝ }
+{
+    s[i]
+}
+
+// The number that stands at place i, 0 beyond the end.
 pub fn number_at(s: &[u8], i: usize) -> Number
     ensures { λ r. ⌜ r ≡ numberAt (now (s .entry)) i ⌝ }
 {
@@ -37,13 +51,13 @@ pub fn parts(s: &[u8]) -> Number
 pub fn variables(s: &[u8]) -> u8
     ensures { λ r. ⌜ r ≡ variables (now (s .entry)) ⌝ }
 {
-    at(s, HEADER - 2)
+    at(s, VARIABLES_PLACE)
 }
 
 pub fn clocks(s: &[u8]) -> u8
     ensures { λ r. ⌜ r ≡ clocks (now (s .entry)) ⌝ }
 {
-    at(s, HEADER - 1)
+    at(s, CLOCKS_PLACE)
 }
 
 pub struct Sizes {
@@ -58,9 +72,9 @@ pub fn read_sizes(s: &[u8]) -> Sizes
     ensures { λ r. ⌜ r ≡ sizesIn (now (s .entry)) ⌝ }
 {
     Sizes {
-        parts: s[0],
-        variables: s[HEADER - 2],
-        clocks: s[HEADER - 1],
+        parts: read_number(s, 0),
+        variables: s[VARIABLES_PLACE],
+        clocks: s[CLOCKS_PLACE],
     }
 }
 
@@ -79,9 +93,16 @@ pub fn length_of(form: Form, n: Number) -> usize
     ensures { λ r. ⌜ r ≡ lengthOf form n ⌝ }
 {
     match form {
-        Form::File => HEADER + (1 + OPERAND) * wide(n),
-        Form::Table => HEADER + ROW * wide(n),
+        Form::File => HEADER + (KIND + OPERAND) * index(n),
+        Form::Table => HEADER + ROW * index(n),
     }
+}
+
+// Where the row of part p begins.
+pub fn row_place(p: Number) -> usize
+    ensures { λ r. ⌜ r ≡ headerLength + rowLength * p ⌝ }
+{
+    HEADER + ROW * index(p)
 }
 
 // Where part p's kind byte stands.
@@ -89,24 +110,24 @@ pub fn kind_place(form: Form, n: Number, p: Number) -> usize
     ensures { λ r. ⌜ r ≡ kindPlace form n p ⌝ }
 {
     match form {
-        Form::File => HEADER + wide(p),
-        Form::Table => HEADER + ROW * wide(p),
+        Form::File => HEADER + index(p),
+        Form::Table => row_place(p),
     }
 }
 
-// Where byte i of part p's operand stands.
-pub fn operand_place(form: Form, n: Number, p: Number, i: u8) -> usize
-    ensures { λ r. ⌜ r ≡ operandPlace form n p + i ⌝ }
+// Where the first byte of part p's operand stands.
+pub fn operand_place(form: Form, n: Number, p: Number) -> usize
+    ensures { λ r. ⌜ r ≡ operandPlace form n p ⌝ }
 {
     match form {
-        Form::File => HEADER + wide(n) + OPERAND * wide(p) + wide(i),
-        Form::Table => HEADER + ROW * wide(p) + (1 + LINKS) + wide(i),
+        Form::File => HEADER + index(n) + OPERAND * index(p),
+        Form::Table => row_place(p) + OPERAND_PLACE,
     }
 }
 
 // The operand whose first byte stands at place i.
 fn operand_at(s: &[u8], i: usize) -> Operand
-    requires { ⌜ i + 3 < length (now s) ⌝ }
+    requires { ⌜ i + operandLength ≤ length (now s) ⌝ }
     ensures { λ r. ⌜ r ≡ operandAt (now (s .entry)) i ⌝ }
 {
     let b0 = s[i];
@@ -121,20 +142,20 @@ pub fn read_entry(s: &[u8], form: Form, p: Number) -> Entry
     requires { ⌜ Held form (now s) p ⌝ }
     ensures { λ r. ⌜ r ≡ entryAt form (now (s .entry)) p ⌝ }
 {
-    let n = s[0];
+    let n = read_number(s, 0);
     let k = kind_place(form, n, p);
     let kind = s[k];
-    let operand = operand_at(s, operand_place(form, n, p, 0));
+    let operand = operand_at(s, operand_place(form, n, p));
     Entry { kind, operand }
 }
 
-// The number that stands i bytes after the kind in part p's row.
-fn link_at(t: &[u8], p: Number, i: u8) -> Number
+// The number that stands at place i of part p's row.
+fn link_at(t: &[u8], p: Number, i: usize) -> Number
     requires { ⌜ Held Table (now t) p ⌝ }
-    requires { ⌜ i < rowLength ⌝ }
+    requires { ⌜ i + numberWidth ≤ rowLength ⌝ }
     ensures { λ r. ⌜ r ≡ numberAt (now (t .entry)) (headerLength + rowLength * p + i) ⌝ }
 {
-    t[HEADER + ROW * wide(p) + wide(i)]
+    read_number(t, row_place(p) + i)
 }
 
 // One past the last part inside part p of a table, the part around p, and the part that begins when
@@ -143,21 +164,21 @@ pub fn end_at(t: &[u8], p: Number) -> Number
     requires { ⌜ Held Table (now t) p ⌝ }
     ensures { λ r. ⌜ r ≡ endAt (now (t .entry)) p ⌝ }
 {
-    link_at(t, p, 1)
+    link_at(t, p, END_PLACE)
 }
 
 pub fn parent_at(t: &[u8], p: Number) -> Number
     requires { ⌜ Held Table (now t) p ⌝ }
     ensures { λ r. ⌜ r ≡ parentAt (now (t .entry)) p ⌝ }
 {
-    link_at(t, p, 2)
+    link_at(t, p, PARENT_PLACE)
 }
 
 pub fn next_at(t: &[u8], p: Number) -> Number
     requires { ⌜ Held Table (now t) p ⌝ }
     ensures { λ r. ⌜ r ≡ nextAt (now (t .entry)) p ⌝ }
 {
-    link_at(t, p, 3)
+    link_at(t, p, NEXT_PLACE)
 }
 
 // How many parts stand inside part p.

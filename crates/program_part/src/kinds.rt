@@ -3,6 +3,19 @@
 use meaning::Entry;
 use meaning::Number;
 use meaning::Operand;
+use meaning::kinds::AT_LEAST;
+use meaning::kinds::BELOW;
+use meaning::kinds::CHOICE;
+use meaning::kinds::DIFFERS;
+use meaning::kinds::EQUALS;
+use meaning::kinds::GOAL;
+use meaning::kinds::MAINTAIN;
+use meaning::kinds::PAR;
+use meaning::kinds::REPEAT;
+use meaning::kinds::SEQ;
+use meaning::kinds::START;
+use meaning::kinds::WAIT;
+use meaning::sizes::BYTE_VALUES;
 use meaning::sizes::MAX_VALUE;
 ghost use mathlib.Core.Path.{_≡_};
 ghost use Rattle.meaning.specs.Kinds.{value, conditionAllowed, goalAllowed, startAllowed, countAllowed, emptyAllowed};
@@ -12,7 +25,7 @@ ghost use Rattle.program_part.specs.Children.{countIf, ofCondition, chil
 pub fn is_known(e: Entry) -> bool
     ensures { λ r. ⌜ r ≡ knownEntry e ⌝ }
 {
-    (1 <= e.kind) & (e.kind <= 8)
+    (GOAL <= e.kind) & (e.kind <= REPEAT)
 }
 
 // How many children follow the part.
@@ -22,11 +35,11 @@ pub fn arity(e: Entry) -> Number
     let kind = e.kind;
     let o = e.operand;
     match kind {
-        4 => o.b0,
-        5 => o.b0,
-        6 => 1,
-        7 => 2,
-        8 => 1,
+        SEQ => o.b0,
+        PAR => o.b0,
+        MAINTAIN => 1,
+        CHOICE => 2,
+        REPEAT => 1,
         _ => 0,
     }
 }
@@ -35,7 +48,7 @@ pub fn arity(e: Entry) -> Number
 pub fn value(o: Operand) -> u16
     ensures { λ r. ⌜ r ≡ value o ⌝ }
 {
-    (o.b2 as u16) + 256 * (o.b3 as u16)
+    (o.b2 as u16) + (BYTE_VALUES as u16) * (o.b3 as u16)
 }
 
 fn is_goal(variables: u8, o: Operand) -> bool
@@ -67,8 +80,8 @@ pub fn is_condition(variables: u8, clocks: u8, o: Operand) -> bool
 {
     let test = o.b0;
     match test {
-        1 | 2 => (o.b1 < variables) & (value(o) <= MAX_VALUE),
-        3 | 4 => o.b1 < clocks,
+        EQUALS | DIFFERS => (o.b1 < variables) & (value(o) <= MAX_VALUE),
+        AT_LEAST | BELOW => o.b1 < clocks,
         _ => false,
     }
 }
@@ -94,9 +107,9 @@ fn of_condition(kind: u8, allowed: bool) -> Children
     ensures { λ c. ⌜ c ≡ ofCondition kind allowed ⌝ }
 {
     match kind {
-        3 => count_if(allowed, 0),
-        6 => count_if(allowed, 1),
-        7 => count_if(allowed, 2),
+        WAIT => count_if(allowed, 0),
+        MAINTAIN => count_if(allowed, 1),
+        CHOICE => count_if(allowed, 2),
         _ => Children::NotAllowed,
     }
 }
@@ -109,10 +122,10 @@ pub fn children_of(variables: u8, clocks: u8, e: Entry) -> Children
     let kind = e.kind;
     let o = e.operand;
     match kind {
-        1 => count_if(is_goal(variables, o), 0),
-        2 => count_if(is_start(clocks, o), 0),
-        4 | 5 => count_if(is_count(o), o.b0),
-        8 => count_if(is_empty(o), 1),
+        GOAL => count_if(is_goal(variables, o), 0),
+        START => count_if(is_start(clocks, o), 0),
+        SEQ | PAR => count_if(is_count(o), o.b0),
+        REPEAT => count_if(is_empty(o), 1),
         _ => of_condition(kind, is_condition(variables, clocks, o)),
     }
 }

@@ -1,7 +1,7 @@
 // The tests that go over all parts of a file in turn, to say which of the refusals 4 to 6 it gets. The
 // file is as long as its parts need.
-use base::wide;
 use meaning::Form;
+use meaning::index;
 use program_part::held::clocks;
 use program_part::held::parts;
 use program_part::held::variables;
@@ -55,7 +55,7 @@ pub(crate) fn is_one_tree(s: &[u8]) -> bool
         if due == 0 {
             return false;
         }
-        due = due - 1 + wide(arity(entry_at(s, Form::File, p)));
+        due = due - 1 + index(arity(entry_at(s, Form::File, p)));
     }
     due == 0
 }

@@ -15,7 +15,7 @@ use Rattle.base.specs.Lists.{sum, nonempty}
 use Rattle.base.proofs.Stores.{sets-append, sets-before, sets-inside, sets-start, getD-sets-in}
 use Rattle.meaning.specs.declared.Entry.{Entry}
 use Rattle.meaning.specs.declared.Form.the-variants.{File, Table}
-use Rattle.meaning.specs.Sizes.{noPart, headerLength, rowLength, lengthOf}
+use Rattle.meaning.specs.Sizes.{byteValues, numberLimit, noPart, headerLength, endPlace, parentPlace, nextPlace, rowLength, lengthOf, numberAt}
 use Rattle.meaning.specs.Kinds.{Kind, PAR, kindOf}
 use Rattle.meaning.specs.Tree.{Part, kind, children, size}
 use Rattle.meaning.specs.Program.{parts, entries, entryAt, arityOf, trees, follow, place, operandBytes}
@@ -25,7 +25,7 @@ use Rattle.meaning.proofs.Tables.{length-rows}
 use Rattle.meaning.proofs.Parsing.{Placed, placed}
 use Rattle.meaning.proofs.Files.{length-entries}
 use Rattle.program_walk.specs.Walk.{Stands, Walkable, OneTree, partAt}
-use Rattle.program_rows.specs.Rows.{entryRow, heldRows, forestRows, Forest, inner, written, endOf, rowWritten, rowsOf}
+use Rattle.program_rows.specs.Rows.{entryRow, withLinks, heldRows, forestRows, Forest, inner, written, endOf, rowWritten, rowsOf}
 use Rattle.program_walk.proofs.Entries.{entries-at, entries-end}
 use Rattle.program_walk.proofs.Standing.{Left, First, stands-entry, stands-below, left-first, left-head, left-more, head-is, head-stands, head-part, part-is, past}
 
@@ -38,7 +38,7 @@ module _ (s : List ℕ) where
   rows-long : (q : ℕ) (rs : List Row) → length (heldRows s q rs) ≡ rowLength * length rs
   unfolding heldRows
   rows-long q [] = refl
-  rows-long q (r ∷ rs) = let rest : length (heldRows s (suc q) rs) ≡ 8 * length rs = rows-long (suc q) rs in omega arith
+  rows-long q (r ∷ rs) = let rest : length (heldRows s (suc q) rs) ≡ rowLength * length rs = rows-long (suc q) rs in omega arith
 
   rows-append : (q : ℕ) (xs ys : List Row) → heldRows s q (xs ++ ys) ≡ heldRows s q xs ++ heldRows s (q + length xs) ys
   unfolding heldRows
@@ -254,7 +254,7 @@ row-links l i k e a b p x os t =
     rw (add-two, add-three, ← first, set-getD l i 0, ← second, set-getD l (suc i) 0) (sym (there-stored (set (set l (suc (suc i)) p) (suc (suc (suc i))) x) (suc (suc (suc (suc i)))) os kept))
 
 -- The loop over the children of part n, whose rows stand in the buffer
-module _ (s : List ℕ) (k : Kind) (n q due : ℕ) (out whole : List ℕ) (end : ℕ) (w : Rowing s k n q due out whole end) (some-due : 0 < due) (f : Forest s out q) (small : parts s < 256) where
+module _ (s : List ℕ) (k : Kind) (n q due : ℕ) (out whole : List ℕ) (end : ℕ) (w : Rowing s k n q due out whole end) (some-due : 0 < due) (f : Forest s out q) (small : parts s < numberLimit) where
   child : First (entries File s) q due (w .left)
   child = first s k n q due out whole end w some-due
 
@@ -281,12 +281,12 @@ module _ (s : List ℕ) (k : Kind) (n q due : ℕ) (out whole : List ℕ) (end :
   end-is : q + size (child .part) ≡ endOf s q
   end-is = ap (λ (c : Part). q + size c) (sym (head-part (entries File s) q due (w .left) child))
 
-  fits : q + size (child .part) < 256
+  fits : q + size (child .part) < numberLimit
   fits = omega (arith, whole-end)
 
-  pub end-read : (a e : ℕ) → a ≡ q → e ≡ getD out (headerLength + rowLength * a + 1) 0 → e ≡ endOf s q
+  pub end-read : (a e : ℕ) → a ≡ row → e ≡ numberAt out (a + endPlace) → e ≡ endOf s q
   end-read a e a-is e-is =
-      let read : getD out (row + 1) 0 ≡ (q + size (child .part)) % 256 = stand 1 (omega arith) in
+      let read : numberAt out (row + endPlace) ≡ (q + size (child .part)) % byteValues = stand 1 (omega arith) in
       rw (e-is, a-is) (read ∙ mod-eq-of-lt fits ∙ end-is)
 
   -- what is inside the child is written already
@@ -305,13 +305,13 @@ module _ (s : List ℕ) (k : Kind) (n q due : ℕ) (out whole : List ℕ) (end :
       (omega (arith, rows-long s (q + 1) (inner (child .part) q), inner-long (child .part) q))
       (there-back out row (headerLength + rowLength * (q + 1)) (entryRow (entryAt File s q) (q + size (child .part)) noPart noPart) (heldRows s (q + 1) (inner (child .part) q) ++ forestRows s (q + size (child .part)) others) (omega arith) stand)
 
-  module _ (e x : ℕ) (out₂ : List ℕ) (e-is : e ≡ endOf s q) (n-fits : n < 256) (x-fits : x < 256) (out-is : out₂ ≡ set (set out (headerLength + rowLength * q + 2) n) (headerLength + rowLength * q + 3) x) where
+  module _ (e x : ℕ) (out₂ : List ℕ) (e-is : e ≡ endOf s q) (out-is : out₂ ≡ withLinks out q n x) where
     linked : out₂ ≡ sets out (headerLength + rowLength * q) (entryRow (entryAt File s q) e n x)
     linked =
         let same : e ≡ q + size (child .part) = e-is ∙ sym end-is in
         out-is
-        ∙ row-links out row (entryAt File s q .kind) ((q + size (child .part)) % 256) (noPart % 256) (noPart % 256) n x (operandBytes (entryAt File s q .operand)) (there-front out row (entryRow (entryAt File s q) (q + size (child .part)) noPart noPart) (heldRows s (q + 1) (inner (child .part) q) ++ forestRows s (q + size (child .part)) others) stand)
-        ∙ rw (same, mod-eq-of-lt n-fits, mod-eq-of-lt x-fits)
+        ∙ row-links out row (entryAt File s q .kind) ((q + size (child .part)) % byteValues) noPart noPart (n % byteValues) (x % byteValues) (operandBytes (entryAt File s q .operand)) (there-front out row (entryRow (entryAt File s q) (q + size (child .part)) noPart noPart) (heldRows s (q + 1) (inner (child .part) q) ++ forestRows s (q + size (child .part)) others) stand)
+        ∙ rw same
 
     -- the child gets its links, and the others still stand
     pub link-child : (follows : Bool) → follows ≡ ltb 1 due → x ≡ nextOf k q e follows → Rowing s k n e (due - 1) out₂ whole end
@@ -324,8 +324,8 @@ module _ (s : List ℕ) (k : Kind) (n q due : ℕ) (out whole : List ℕ) (end :
         (record {
           trees-left = others;
           are = ap trees (sym (drop-drop (size (child .part)) q (entries File s))) ∙ past (child .part) (drop q (entries File s)) others trees-are;
-          there = there-kept (set out (row + 2) n) (headerLength + rowLength * (q + size (child .part))) (row + 3) x (forestRows s (q + size (child .part)) others) (omega (arith, size-law (child .part)))
-              (there-kept out (headerLength + rowLength * (q + size (child .part))) (row + 2) n (forestRows s (q + size (child .part)) others) (omega (arith, size-law (child .part))) others-there);
+          there = there-kept (set out (row + parentPlace) (n % byteValues)) (headerLength + rowLength * (q + size (child .part))) (row + nextPlace) (x % byteValues) (forestRows s (q + size (child .part)) others) (omega (arith, size-law (child .part)))
+              (there-kept out (headerLength + rowLength * (q + size (child .part))) (row + parentPlace) (n % byteValues) (forestRows s (q + size (child .part)) others) (omega (arith, size-law (child .part))) others-there);
         })
 
     -- its end lies beyond it, and not beyond the last part

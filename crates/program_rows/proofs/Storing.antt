@@ -10,25 +10,32 @@ use lib.ListN.{set}
 use lib.Seq.{sets}
 use Rattle.meaning.specs.declared.Operand.{Operand}
 use Rattle.meaning.specs.declared.Entry.{Entry}
-use Rattle.meaning.specs.Sizes.{noPart, headerLength, rowLength}
+use Rattle.meaning.specs.Sizes.{numberLimit, noPart, headerLength, kindLength, linksLength, rowLength, endPlace, parentPlace, nextPlace, numberBytes}
 use Rattle.meaning.specs.Kinds.{kindOf}
 use Rattle.meaning.specs.Program.{operandBytes}
 use Rattle.meaning.specs.Table.{nextOf}
-use Rattle.program_rows.specs.Rows.{entryRow}
+use Rattle.program_rows.specs.Rows.{entryRow, withLinks}
 
 pub operand-stored : (l l₁ l₂ l₃ m : List ℕ) (i : ℕ) (o : Operand) → l₁ ≡ set l i (o .b0) → l₂ ≡ set l₁ (i + 1) (o .b1) → l₃ ≡ set l₂ (i + 2) (o .b2) → m ≡ set l₃ (i + 3) (o .b3) → m ≡ sets l i (operandBytes o)
 operand-stored l l₁ l₂ l₃ m i o e₁ e₂ e₃ e₄ = rw (e₄, e₃, e₂, e₁, add-one, add-two, add-three)
 
--- a row, byte by byte: a number below 256 is its own byte
-pub row-stored : (l l₁ l₂ l₃ l₄ m : List ℕ) (q k e p n : ℕ) (a : Entry) → e < 256 → p < 256 → n < 256 → k ≡ q
-    → l₁ ≡ set l (3 + 8 * k) (a .kind) → l₂ ≡ set l₁ (3 + 8 * k + 1) e → l₃ ≡ set l₂ (3 + 8 * k + 2) p → l₄ ≡ set l₃ (3 + 8 * k + 3) n → m ≡ sets l₄ (3 + 8 * k + 4) (operandBytes (a .operand))
-    → m ≡ sets l (headerLength + rowLength * q) (entryRow a e p n)
-row-stored l l₁ l₂ l₃ l₄ m q k e p n a he hp hn k-is e₁ e₂ e₃ e₄ e₅ =
-    let i : 3 + 8 * q + 4 ≡ suc (suc (suc (suc (3 + 8 * q)))) = omega arith in
-    rw (e₅, e₄, e₃, e₂, e₁, k-is, i, mod-eq-of-lt he, mod-eq-of-lt hp, mod-eq-of-lt hn, add-one, add-two, add-three)
+-- a number below the limit is its own byte
+pub number-stored : (l m : List ℕ) (i x : ℕ) → x < numberLimit → m ≡ set l i x → m ≡ sets l i (numberBytes x)
+number-stored l m i x h e = rw (e, mod-eq-of-lt h)
 
-pub links-stored : (l l₁ m : List ℕ) (q k p n : ℕ) → k ≡ q → l₁ ≡ set l (3 + 8 * k + 2) p → m ≡ set l₁ (3 + 8 * k + 3) n → m ≡ set (set l (headerLength + rowLength * q + 2) p) (headerLength + rowLength * q + 3) n
-links-stored l l₁ m q k p n k-is e₁ e₂ = rw (e₂, e₁, k-is)
+module _ (q i p n : ℕ) (i-is : i ≡ headerLength + rowLength * q) where
+  pub links-stored : (l l₁ m : List ℕ) → l₁ ≡ sets l (i + parentPlace) (numberBytes p) → m ≡ sets l₁ (i + nextPlace) (numberBytes n) → m ≡ withLinks l q p n
+  links-stored l l₁ m e₁ e₂ = rw (e₂, e₁, i-is)
+
+  -- a row, field by field
+  pub row-stored : (l l₁ l₂ l₃ m : List ℕ) (e : ℕ) (a : Entry) → l₁ ≡ set l i (a .kind) → l₂ ≡ sets l₁ (i + endPlace) (numberBytes e) → l₃ ≡ withLinks l₂ q p n → m ≡ sets l₃ (i + (kindLength + linksLength)) (operandBytes (a .operand))
+      → m ≡ sets l (headerLength + rowLength * q) (entryRow a e p n)
+  row-stored l l₁ l₂ l₃ m e a e₁ e₂ e₃ e₄ =
+      let row : ℕ = headerLength + rowLength * q in
+      let second : row + parentPlace ≡ suc (suc row) = omega arith in
+      let third : row + nextPlace ≡ suc (suc (suc row)) = omega arith in
+      let after : row + (kindLength + linksLength) ≡ suc (suc (suc (suc row))) = omega arith in
+      rw (e₄, e₃, e₂, e₁, i-is, add-one, second, third, after)
 
 -- the next of a child, by the parent's kind
 pub next-seq : (b q e : ℕ) (follows : Bool) → b ≡ 4 → follows ≡ true → e ≡ nextOf (kindOf b) q e follows

@@ -7,7 +7,7 @@ use lib.ListN.{length, getD, drop}
 use lib.Seq.{sets}
 use Rattle.meaning.specs.declared.Entry.{Entry}
 use Rattle.meaning.specs.declared.Form.the-variants.{File}
-use Rattle.meaning.specs.Sizes.{noPart, numberBytes, headerLength, rowLength}
+use Rattle.meaning.specs.Sizes.{noPart, numberBytes, headerLength, parentPlace, nextPlace, rowLength}
 use Rattle.meaning.specs.Kinds.{PAR}
 use Rattle.meaning.specs.Tree.{Part, kind, children, size}
 use Rattle.meaning.specs.Program.{trees, entryAt, entries, operandBytes}
@@ -17,6 +17,10 @@ use Rattle.program_walk.specs.Walk.{partAt}
 -- a part's links: its end, its parent, its next
 abbrev pub links : ℕ → ℕ → ℕ → List ℕ
 links e p n = numberBytes e ++ (numberBytes p ++ numberBytes n)
+
+-- the table under way, with the parent and the next of part q in its row
+abbrev pub withLinks : List ℕ → ℕ → ℕ → ℕ → List ℕ
+withLinks out q p n = sets (sets out (headerLength + rowLength * q + parentPlace) (numberBytes p)) (headerLength + rowLength * q + nextPlace) (numberBytes n)
 
 -- the rows of all parts inside part p
 unfoldable pub inner : Part → ℕ → List Row

@@ -4,13 +4,13 @@
 use crate::rows::next_of;
 use crate::rows::put_links;
 use crate::rows::put_row;
-use base::wide;
 use meaning::Form;
 use meaning::Number;
-use meaning::sizes::HEADER;
+use meaning::sizes::END_PLACE;
 use meaning::sizes::NO_PART;
-use meaning::sizes::ROW;
 use program_part::held::parts;
+use program_part::held::read_number;
+use program_part::held::row_place;
 use program_part::kinds::arity;
 use program_walk::walker::entry_at;
 ghost use mathlib.Core.Path.{_≡_};
@@ -34,7 +34,7 @@ fn write_row(s: &[u8], out: &mut [u8], p: Number)
     let mut due = arity(part);
     let mut q = p + 1;
     while due > 0 {
-        let e = out[HEADER + ROW * wide(q) + 1];
+        let e = read_number(out, row_place(q) + END_PLACE);
         let next = next_of(part.kind, q, e, 1 < due);
         put_links(out, q, p, next);
         q = e;

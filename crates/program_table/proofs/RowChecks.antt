@@ -14,7 +14,7 @@ use Rattle.base.proofs.Lists.{and-left, and-right}
 use Rattle.base.proofs.Stores.{bytes-all}
 use Rattle.meaning.specs.declared.Entry.{Entry}
 use Rattle.meaning.specs.declared.Form.the-variants.{Table}
-use Rattle.meaning.specs.Sizes.{noPart, headerLength, rowLength, bytesAt}
+use Rattle.meaning.specs.Sizes.{noPart, headerLength, rowLength, bytesAt, kindLength, linksLength, endPlace, parentPlace, nextPlace, operandPlace}
 use Rattle.meaning.specs.Kinds.{kindOf}
 use Rattle.meaning.specs.Tree.{Part}
 use Rattle.meaning.specs.Program.{parts, variables, clocks, entryAt, entries}
@@ -123,10 +123,10 @@ module _ (t : List ℕ) (p : ℕ) (ending : Ending t) (there : p < parts t) wher
   same-row = sym (same-entry t ending p there)
 
   -- byte k of an operand
-  byte-of : (s : List ℕ) (k : ℕ) → getD s (3 + 8 * p + (4 + k)) 0 ≡ getD s (3 + 8 * p + 4 + k) 0
+  byte-of : (s : List ℕ) (k : ℕ) → rowByte s p (kindLength + linksLength + k) ≡ getD s (operandPlace Table (parts s) p + k) 0
   byte-of s k = ap (λ (i : ℕ). getD s i 0) (omega arith)
 
-  own-byte : (j : ℕ) → (j ≡ 1 → ⊥) → (j ≡ 2 → ⊥) → (j ≡ 3 → ⊥) → j < 8 → rowByte t p j ≡ rowByte (compiled Table t) p j
+  own-byte : (j : ℕ) → (j ≡ endPlace → ⊥) → (j ≡ parentPlace → ⊥) → (j ≡ nextPlace → ⊥) → j < rowLength → rowByte t p j ≡ rowByte (compiled Table t) p j
   own-byte zero a b c l = rw add-zero (ap (λ (e : Entry). e .kind) same-row)
   own-byte (suc zero) a b c l = absurd (a refl)
   own-byte (suc (suc zero)) a b c l = absurd (b refl)
@@ -137,30 +137,30 @@ module _ (t : List ℕ) (p : ℕ) (ending : Ending t) (there : p < parts t) wher
   own-byte (suc (suc (suc (suc (suc (suc (suc zero))))))) a b c l = byte-of t 3 ∙ ap (λ (e : Entry). e .operand .b3) same-row ∙ sym (byte-of (compiled Table t) 3)
   own-byte (suc (suc (suc (suc (suc (suc (suc (suc j)))))))) a b c l = absurd (omega arith)
 
-  pub implied-own : (j w : ℕ) → (j ≡ 1 → ⊥) → (j ≡ 2 → ⊥) → (j ≡ 3 → ⊥) → j < rowLength → w ≡ p → getD t (headerLength + rowLength * w + j) 0 ≡ rowByte (compiled Table t) p j
-  implied-own j w a b c l w-is = rw w-is (own-byte j a b c l)
+  pub implied-own : (j row : ℕ) → (j ≡ endPlace → ⊥) → (j ≡ parentPlace → ⊥) → (j ≡ nextPlace → ⊥) → j < rowLength → row ≡ headerLength + rowLength * p → getD t (row + j) 0 ≡ rowByte (compiled Table t) p j
+  implied-own j row a b c l row-is = rw row-is (own-byte j a b c l)
 
 module _ (t : List ℕ) (p : ℕ) (l : Links) (l-is : l ≡ linksIn (compiled Table t) p) (j : ℕ) where
-  pub implied-end : j ≡ 1 → l .end ≡ rowByte (compiled Table t) p j
+  pub implied-end : j ≡ endPlace → l .end ≡ rowByte (compiled Table t) p j
   implied-end h = rw (h, l-is)
 
-  pub implied-parent : j ≡ 2 → l .parent ≡ rowByte (compiled Table t) p j
+  pub implied-parent : j ≡ parentPlace → l .parent ≡ rowByte (compiled Table t) p j
   implied-parent h = rw (h, l-is)
 
-  pub implied-next : j ≡ 3 → l .next ≡ rowByte (compiled Table t) p j
+  pub implied-next : j ≡ nextPlace → l .next ≡ rowByte (compiled Table t) p j
   implied-next h = rw (h, l-is)
 
 -- One byte compared with the one implied
-module _ (t : List ℕ) (p j w b : ℕ) (w-is : w ≡ p) (b-is : b ≡ rowByte (compiled Table t) p j) where
-  byte-compared : byteIs t p j ≡ eqb b (getD t (headerLength + rowLength * w + j) 0)
+module _ (t : List ℕ) (p j row b : ℕ) (row-is : row ≡ headerLength + rowLength * p) (b-is : b ≡ rowByte (compiled Table t) p j) where
+  byte-compared : byteIs t p j ≡ eqb b (getD t (row + j) 0)
   unfolding byteIs
-  byte-compared = rw (b-is, w-is)
+  byte-compared = rw (b-is, row-is)
 
-  pub byte-agrees : b ≡ getD t (headerLength + rowLength * w + j) 0 → byteIs t p j ≡ true
-  byte-agrees h = byte-compared ∙ eq-eqb b (getD t (headerLength + rowLength * w + j) 0) h
+  pub byte-agrees : b ≡ getD t (row + j) 0 → byteIs t p j ≡ true
+  byte-agrees h = byte-compared ∙ eq-eqb b (getD t (row + j) 0) h
 
-  pub byte-differs : (b ≡ getD t (headerLength + rowLength * w + j) 0 → ⊥) → byteIs t p j ≡ false
-  byte-differs h = byte-compared ∙ ne-eqb b (getD t (headerLength + rowLength * w + j) 0) h
+  pub byte-differs : (b ≡ getD t (row + j) 0 → ⊥) → byteIs t p j ≡ false
+  byte-differs h = byte-compared ∙ ne-eqb b (getD t (row + j) 0) h
 
 pub row-first : (t : List ℕ) (p : ℕ) → allFrom (byteIs t p) 0 (rowLength - 0) ≡ rowIs t p
 unfolding rowIs
@@ -219,7 +219,7 @@ module _ (t : List ℕ) (ending : Ending t) (some : 0 < parts t) where
       let lies : Lies (compiled Table t) (part t ending) 0 noPart noPart = subst (λ s. Lies s (part t ending) 0 noPart noPart) (whole-is t ending) (root-lies (variables t) (clocks t) (part t ending) (held t ending .within)) in
       (own-row lies .parent-is, own-row lies .next-is)
 
-  own-is : (j : ℕ) → (j ≡ 1 → ⊥) → (j ≡ 2 → ⊥) → (j ≡ 3 → ⊥) → j < 8 → byteIs t 0 j ≡ true
+  own-is : (j : ℕ) → (j ≡ endPlace → ⊥) → (j ≡ parentPlace → ⊥) → (j ≡ nextPlace → ⊥) → j < rowLength → byteIs t 0 j ≡ true
   unfolding byteIs
   own-is j a b c l = eq-eqb (rowByte (compiled Table t) 0 j) (rowByte t 0 j) (sym (own-byte t 0 ending some j a b c l))
 

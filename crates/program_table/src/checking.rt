@@ -1,18 +1,19 @@
 // The check of a table's rows. First a part recurses into its children, to find where it ends; then the
 // rows are gone over in their order, and each byte is compared with the one that the kinds and operands
 // imply. Nothing is stored.
-use base::wide;
 use meaning::Form;
 use meaning::Number;
-use meaning::sizes::HEADER;
-use meaning::sizes::LINKS;
+use meaning::sizes::END_PLACE;
+use meaning::sizes::NEXT_PLACE;
 use meaning::sizes::NO_PART;
+use meaning::sizes::PARENT_PLACE;
 use meaning::sizes::ROW;
 use program_part::held::end_at;
 use program_part::held::next_at;
 use program_part::held::parent_at;
 use program_part::held::parts;
 use program_part::held::read_sizes;
+use program_part::held::row_place;
 use program_part::kinds::Children;
 use program_part::kinds::children_of;
 use program_rows::rows::next_of;
@@ -111,16 +112,16 @@ fn implied(t: &[u8], p: Number, links: Links, j: usize) -> u8
     requires { ⌜ j < rowLength ⌝ }
     ensures { λ b. ⌜ b ≡ rowByte (compiled Table (now (t .entry))) p j ⌝ }
 {
-    if j == 1 {
+    if j == END_PLACE {
         return links.end;
     }
-    if j == 2 {
+    if j == PARENT_PLACE {
         return links.parent;
     }
-    if j == LINKS {
+    if j == NEXT_PLACE {
         return links.next;
     }
-    t[HEADER + ROW * wide(p) + j]
+    t[row_place(p) + j]
 }
 
 // Whether the root's row is the one implied: the root has no parent and no next.
@@ -144,7 +145,7 @@ pub(crate) fn rows_match(t: &[u8]) -> bool
     let mut matches = true;
     'rows: for p in 1..parts(t) {
         let links = links_of(t, p);
-        let start = HEADER + ROW * wide(p);
+        let start = row_place(p);
         for j in 0..ROW {
             if implied(t, p, links, j) != t[start + j] {
                 matches = false;

@@ -1,6 +1,14 @@
 // What an allowed record's marks must be: the root's, and those of each part's children.
 use meaning::Form;
 use meaning::Number;
+use meaning::kinds::CHOICE;
+use meaning::kinds::GOAL;
+use meaning::kinds::MAINTAIN;
+use meaning::kinds::PAR;
+use meaning::kinds::REPEAT;
+use meaning::kinds::SEQ;
+use meaning::kinds::START;
+use meaning::kinds::WAIT;
 use meaning::sizes::FINISHED;
 use meaning::sizes::OFFERED;
 use program_part::held::end_at;
@@ -62,14 +70,14 @@ fn children_allowed(phase: u8, kind: u8, n: Number) -> bool
     ensures { λ b. ⌜ b ≡ childrenAllowed phase (kindOf kind) n ⌝ }
 {
     match kind {
-        1 => true,
-        2 => true,
-        3 => true,
-        4 => n == 1,
-        5 => 1 <= n,
-        6 => (n == 1) | (phase == OFFERED),
-        7 => n <= 1,
-        8 => n == 1,
+        GOAL => true,
+        START => true,
+        WAIT => true,
+        SEQ => n == 1,
+        PAR => 1 <= n,
+        MAINTAIN => (n == 1) | (phase == OFFERED),
+        CHOICE => n <= 1,
+        REPEAT => n == 1,
         _ => true,
     }
 }

@@ -1,10 +1,13 @@
 // The tests of an allowed record that go over its bytes, and over its clocks.
 use base::wide;
+use meaning::index;
 use meaning::sizes::ESTIMATE_PLACE;
 use meaning::sizes::FINISHED;
+use meaning::sizes::MARKED;
 use meaning::sizes::MARKS_PLACE;
 use meaning::sizes::MAX_VALUE;
 use meaning::sizes::RECORD;
+use meaning::sizes::STARTED;
 use meaning::sizes::STARTED_PLACE;
 use meaning::sizes::STARTS_PLACE;
 use meaning::sizes::TIME;
@@ -56,7 +59,7 @@ pub fn rest_zero(t: &[u8], r: &[u8]) -> bool
 {
     let v = wide(variables(t));
     let k = wide(clocks(t));
-    let n = wide(parts(t));
+    let n = index(parts(t));
     all_zero(r, ESTIMATE_PLACE + v, STARTED_PLACE)
         & (all_zero(r, STARTED_PLACE + k, STARTS_PLACE)
             & (all_zero(r, STARTS_PLACE + TIME * k, MARKS_PLACE)
@@ -71,10 +74,10 @@ pub fn values_allowed(t: &[u8], r: &[u8]) -> bool
 {
     let v = wide(variables(t));
     let k = wide(clocks(t));
-    let n = wide(parts(t));
+    let n = index(parts(t));
     (phase(r) <= FINISHED)
-        & (all_at_most(r, STARTED_PLACE, STARTED_PLACE + k, 1)
-            & (all_at_most(r, MARKS_PLACE, MARKS_PLACE + n, 1)
+        & (all_at_most(r, STARTED_PLACE, STARTED_PLACE + k, STARTED)
+            & (all_at_most(r, MARKS_PLACE, MARKS_PLACE + n, MARKED)
                 & all_at_most(r, ESTIMATE_PLACE, ESTIMATE_PLACE + v, MAX_VALUE as u8)))
 }
 

@@ -15,7 +15,7 @@ use Rattle.base.proofs.Lists.{and-right, length-tabulate, getD-tabulate}
 use Rattle.base.proofs.Stores.{length-bytes, set-before, sets-inside, sets-past, getD-sets-out, getD-sets-in}
 use Rattle.meaning.specs.declared.Entry.{Entry}
 use Rattle.meaning.specs.declared.Form.the-variants.{Table}
-use Rattle.meaning.specs.Sizes.{maxClocks, timeWidth, littleEndian, valueFrom}
+use Rattle.meaning.specs.Sizes.{maxClocks, timeWidth, littleEndian, valueFrom, byteValues}
 use Rattle.meaning.specs.Kinds.{GOAL, START, WAIT}
 use Rattle.meaning.specs.Program.{parts, variables, clocks, entryAt}
 use Rattle.meaning.specs.Table.{operandOf, isTable}
@@ -224,13 +224,13 @@ stores-own : (r : List ℕ) (i n : ℕ) → sets r i (bytesAt r i n) ≡ r
 stores-own r i zero = refl
 stores-own r i (suc n) = ap (λ a. sets a (suc i) (bytesAt r (suc i) n)) (set-getD r i 0) ∙ stores-own r (suc i) n
 
-module _ (r : List ℕ) (bytes : (j : ℕ) → getD r j 0 < 256) where
+module _ (r : List ℕ) (bytes : (j : ℕ) → getD r j 0 < byteValues) where
   value-own : (i w : ℕ) → littleEndian (suc w) (valueFrom (getD r i 0) (bytesAt r (suc i) w)) ≡ bytesAt r i (suc w)
-  value-own i zero = let e : getD r i 0 % 256 ≡ getD r i 0 = omega (arith, bytes i) in rw e
+  value-own i zero = let e : getD r i 0 % byteValues ≡ getD r i 0 = omega (arith, bytes i) in rw e
   value-own i (suc w) =
       let x : ℕ = valueFrom (getD r (suc i) 0) (bytesAt r (suc (suc i)) w) in
-      let low : (getD r i 0 + 256 * x) % 256 ≡ getD r i 0 = omega (arith, bytes i) in
-      let high : (getD r i 0 + 256 * x) / 256 ≡ x = omega (arith, bytes i) in
+      let low : (getD r i 0 + byteValues * x) % byteValues ≡ getD r i 0 = omega (arith, bytes i) in
+      let high : (getD r i 0 + byteValues * x) / byteValues ≡ x = omega (arith, bytes i) in
       rw (low, high) (ap (λ l. getD r i 0 ∷ l) (value-own (suc i) w))
 
   times-own : (c n : ℕ) → flat (littleEndian timeWidth) (tabulate (λ c. timeAt r (startsPlace + timeWidth * c)) c n) ≡ bytesAt r (startsPlace + timeWidth * c) (timeWidth * n)
@@ -258,7 +258,7 @@ start-made time x y a h = go (isZero x) h
     go false k = refl
 
 -- All parts
-module _ (t r : List ℕ) (table : isTable t ≡ true) (allowed : recordAllowed t r ≡ true) (bytes : (j : ℕ) → getD r j 0 < 256) where
+module _ (t r : List ℕ) (table : isTable t ≡ true) (allowed : recordAllowed t r ≡ true) (bytes : (j : ℕ) → getD r j 0 < byteValues) where
   long : recordLength ≤ length r
   long = allowed-long t r allowed
 

@@ -4,6 +4,8 @@ use base::store;
 use base::wide;
 use meaning::Form;
 use meaning::Number;
+use meaning::kinds::START;
+use meaning::sizes::STARTED;
 use meaning::sizes::STARTED_PLACE;
 use meaning::sizes::STARTS_PLACE;
 use meaning::sizes::TIME;
@@ -35,7 +37,7 @@ fn start_clock(r: &mut [u8], c: u8, time: u32)
     if is_started(r, c) {
         return;
     }
-    store(r, STARTED_PLACE + wide(c), 1);
+    store(r, STARTED_PLACE + wide(c), STARTED);
     put_time(r, STARTS_PLACE + TIME * wide(c), time);
 }
 
@@ -48,7 +50,7 @@ fn start_part(t: &[u8], r: &mut [u8], p: Number, time: u32)
 {
     let part = entry_at(t, Form::Table, p);
     let o = part.operand;
-    if is_marked(r, p) & (part.kind == 2) {
+    if is_marked(r, p) & (part.kind == START) {
         start_clock(r, o.b1, time);
     }
 }

@@ -5,6 +5,7 @@ use meaning::Entry;
 use meaning::Form;
 use meaning::Number;
 use meaning::Operand;
+use meaning::kinds::GOAL;
 use meaning::sizes::CONTESTED;
 use meaning::sizes::NO_GOAL;
 use program_part::held::parts;
@@ -28,7 +29,7 @@ ghost use Rattle.run_goals.specs.Raised.{joined, raised, raisedBy, leafA
 fn is_goal(e: Entry) -> bool
     ensures { λ b. ⌜ b ≡ isKind GOAL e ⌝ }
 {
-    e.kind == 1
+    e.kind == GOAL
 }
 
 // What goal byte b becomes when one more GOAL gives value x. A contested byte stays so, since no

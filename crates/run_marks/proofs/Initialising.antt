@@ -8,6 +8,7 @@ use mathlib.Core.List.{List, _∷_}
 use lib.ListN.{set}
 use lib.Seq.{sets}
 use Rattle.base.specs.Lists.{flag}
+use Rattle.meaning.specs.Sizes.{numberLimit}
 use Rattle.meaning.specs.declared.Entry.{Entry}
 use Rattle.meaning.specs.declared.Form.the-variants.{Table}
 use Rattle.meaning.specs.Kinds.{kindOf}
@@ -58,7 +59,7 @@ fresh-turn t p n (suc skip) = refl
 
 -- the number after a part's is one of a byte, and the parts inside a part stand in the table
 module _ (t : List ℕ) (q : ℕ) (table : isTable t ≡ true) (here : q < parts t) where
-  pub next-fits : q + 1 < 256
+  pub next-fits : q + 1 < numberLimit
   next-fits = omega (arith, parts-fit t table)
 
   pub turn-there : (p e : ℕ) → e ≡ endAt t q → p < e → p < parts t

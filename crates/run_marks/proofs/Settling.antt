@@ -17,7 +17,7 @@ use Rattle.meaning.specs.declared.Entry.{Entry}
 use Rattle.meaning.specs.declared.Form.the-variants.{Table}
 use Rattle.meaning.specs.declared.Fate.{Fate}
 use Rattle.meaning.specs.declared.Fate.the-variants.{Stays, Ends, First, Second}
-use Rattle.meaning.specs.Sizes.{noPart, maxParts}
+use Rattle.meaning.specs.Sizes.{noPart, maxParts, numberLimit}
 use Rattle.meaning.specs.Kinds.{Kind, UNKNOWN, GOAL, START, WAIT, SEQ, PAR, MAINTAIN, CHOICE, REPEAT, kindOf}
 use Rattle.meaning.specs.Program.{parts, entryAt}
 use Rattle.meaning.specs.Table.{kindAt, operandOf, endAt, nextAt, insideOf, isTable}
@@ -118,7 +118,7 @@ module _ (t : List ℕ) (table : isTable t ≡ true) where
     fated-there q q-is = rw q-is (fated .follows)
 
   -- a part's first child has a number, and where a CHOICE takes its second child it holds its first
-  pub next-fits : (p : ℕ) → p < parts t → p + 1 < 256
+  pub next-fits : (p : ℕ) → p < parts t → p + 1 < numberLimit
   next-fits p h = omega (arith, parts-fit t table)
 
   pub second-held : (p : ℕ) (f : Fate) → Fated t p f → f ≡ Second → Held Table t (p + 1)

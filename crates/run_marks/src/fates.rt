@@ -3,6 +3,14 @@
 use meaning::Entry;
 use meaning::Fate;
 use meaning::Operand;
+use meaning::kinds::CHOICE;
+use meaning::kinds::GOAL;
+use meaning::kinds::MAINTAIN;
+use meaning::kinds::PAR;
+use meaning::kinds::REPEAT;
+use meaning::kinds::SEQ;
+use meaning::kinds::START;
+use meaning::kinds::WAIT;
 use run_record::conditions::reached;
 use run_record::conditions::satisfied;
 use run_record::fields::last_time;
@@ -53,14 +61,14 @@ pub fn fate(t: &[u8], r: &[u8], est: &[u8], part: Entry, before: bool, after: bo
     let kind = part.kind;
     let operand = part.operand;
     match kind {
-        1 => ends_if(reached(est, operand)),
-        2 => Fate::Ends,
-        3 => ends_if(satisfied(t, r, est, last_time(r), operand)),
-        4 => ends_if(!after),
-        5 => ends_if(!after),
-        6 => ends_if(!after),
-        7 => of_choice(t, r, est, operand, before, after),
-        8 => ends_if(!after),
+        GOAL => ends_if(reached(est, operand)),
+        START => Fate::Ends,
+        WAIT => ends_if(satisfied(t, r, est, last_time(r), operand)),
+        SEQ => ends_if(!after),
+        PAR => ends_if(!after),
+        MAINTAIN => ends_if(!after),
+        CHOICE => of_choice(t, r, est, operand, before, after),
+        REPEAT => ends_if(!after),
         _ => Fate::Stays,
     }
 }

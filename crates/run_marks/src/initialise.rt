@@ -1,8 +1,18 @@
 // Initialising a part: it is marked, and with it the parts inside that begin when it does.
 use base::store;
-use base::wide;
 use meaning::Form;
 use meaning::Number;
+use meaning::index;
+use meaning::kinds::CHOICE;
+use meaning::kinds::GOAL;
+use meaning::kinds::MAINTAIN;
+use meaning::kinds::PAR;
+use meaning::kinds::REPEAT;
+use meaning::kinds::SEQ;
+use meaning::kinds::START;
+use meaning::kinds::WAIT;
+use meaning::sizes::MARKED;
+use meaning::sizes::UNMARKED;
 use program_part::held::end_at;
 use program_part::held::inside_of;
 use program_part::held::parent_at;
@@ -23,14 +33,14 @@ fn begins_in(kind: u8, q: Number, p: Number) -> bool
     ensures { λ b. ⌜ b ≡ beginsIn (kindOf kind) q p ⌝ }
 {
     match kind {
-        1 => false,
-        2 => false,
-        3 => false,
-        4 => wide(p) == wide(q) + 1,
-        5 => true,
-        6 => true,
-        7 => false,
-        8 => true,
+        GOAL => false,
+        START => false,
+        WAIT => false,
+        SEQ => index(p) == index(q) + 1,
+        PAR => true,
+        MAINTAIN => true,
+        CHOICE => false,
+        REPEAT => true,
         _ => false,
     }
 }
@@ -56,16 +66,16 @@ fn turn(t: &[u8], m: &mut [u8], from: usize, p: Number, skip: Number) -> Number
     requires { ⌜ from + parts (now t) ≤ length (now m) ⌝ }
     ensures { λ n. ⌜ Turned (now (t .entry)) (now (m .entry)) from p skip (now (m .exit)) n ⌝ }
 {
-    let i = from + wide(p);
+    let i = from + index(p);
     if 0 < skip {
-        store(m, i, 0);
+        store(m, i, UNMARKED);
         return skip - 1;
     }
     if begins(t, p) {
-        store(m, i, 1);
+        store(m, i, MARKED);
         return 0;
     }
-    store(m, i, 0);
+    store(m, i, UNMARKED);
     inside_of(t, p)
 }
 
@@ -76,7 +86,7 @@ pub fn initialise(t: &[u8], m: &mut [u8], from: usize, q: Number)
     requires { ⌜ from + parts (now t) ≤ length (now m) ⌝ }
     ensures { λ _. ⌜ now (m .exit) ≡ sets (now (m .entry)) (from + q) (fresh (now (t .entry)) q) ⌝ }
 {
-    store(m, from + wide(q), 1);
+    store(m, from + index(q), MARKED);
     let mut skip: Number = 0;
     for p in q + 1..end_at(t, q) {
         skip = turn(t, m, from, p, skip);

@@ -4,11 +4,13 @@
 use crate::fates::fate;
 use crate::initialise::initialise;
 use base::store;
-use base::wide;
 use meaning::Fate;
 use meaning::Form;
 use meaning::Number;
+use meaning::index;
+use meaning::sizes::MARKED;
 use meaning::sizes::NO_PART;
+use meaning::sizes::UNMARKED;
 use program_part::held::end_at;
 use program_part::held::next_at;
 use program_part::held::parts;
@@ -40,10 +42,10 @@ fn mark_after(f: Fate) -> u8
     ensures { λ x. ⌜ x ≡ markAfter f ⌝ }
 {
     match f {
-        Fate::Stays => 1,
-        Fate::Ends => 0,
-        Fate::First => 1,
-        Fate::Second => 1,
+        Fate::Stays => MARKED,
+        Fate::Ends => UNMARKED,
+        Fate::First => MARKED,
+        Fate::Second => MARKED,
     }
 }
 
@@ -70,7 +72,7 @@ fn mark(t: &[u8], m: &mut [u8], p: Number, x: u8, q: Number)
     requires { ⌜ parts (now t) ≤ length (now m) ⌝ }
     ensures { λ _. ⌜ now (m .exit) ≡ marked (now (t .entry)) p x q (now (m .entry)) ⌝ }
 {
-    store(m, wide(p), x);
+    store(m, index(p), x);
     if q != NO_PART {
         initialise(t, m, 0, q);
     }
@@ -80,7 +82,7 @@ fn mark(t: &[u8], m: &mut [u8], p: Number, x: u8, q: Number)
 fn lowest_with(p: Number, x: u8, q: Number, low: Number) -> Number
     ensures { λ l. ⌜ l ≡ lowestWith p x q low ⌝ }
 {
-    if x != 0 {
+    if x != UNMARKED {
         return p;
     }
     if q < low { q } else { low }
@@ -109,7 +111,7 @@ fn turn(t: &[u8], r: &[u8], est: &[u8], m: &mut [u8], p: Number, low: Lowest) ->
     ensures { λ _. ⌜ now (m .exit) ≡ turnMarks (now (t .entry)) (now (r .entry)) (now (est .entry)) p low (now (m .entry)) ⌝ }
 {
     if !is_marked(r, p) {
-        store(m, wide(p), 0);
+        store(m, index(p), UNMARKED);
         return low;
     }
     let f = turn_fate(t, r, est, p, low);

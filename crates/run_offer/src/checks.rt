@@ -6,8 +6,11 @@ use meaning::Form;
 use meaning::Number;
 use meaning::Operand;
 use meaning::Outcome;
+use meaning::index;
+use meaning::kinds::MAINTAIN;
 use meaning::sizes::ESTIMATE_PLACE;
 use meaning::sizes::MARKS_PLACE;
+use meaning::sizes::UNMARKED;
 use program_part::held::inside_of;
 use program_part::held::parts;
 use program_part::held::variables;
@@ -31,7 +34,7 @@ ghost use Rattle.run_offer.specs.Turns.{judging, turned, skipAfter};
 fn is_maintain(e: Entry) -> bool
     ensures { λ b. ⌜ b ≡ isKind MAINTAIN e ⌝ }
 {
-    e.kind == 6
+    e.kind == MAINTAIN
 }
 
 // What the record's own estimate and clocks make of a condition at this time.
@@ -69,7 +72,7 @@ fn turn(t: &[u8], r: &mut [u8], time: u32, p: Number, skip: Number) -> Number
     ensures { λ _. ⌜ now (r .exit) ≡ turned (now (r .entry)) p skip ⌝ }
 {
     if skip != 0 {
-        store(r, MARKS_PLACE + wide(p), 0);
+        store(r, MARKS_PLACE + index(p), UNMARKED);
         return skip - 1;
     }
     if breaks(t, r, time, p) {

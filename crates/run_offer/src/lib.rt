@@ -8,6 +8,7 @@ use meaning::Answer;
 use meaning::OfferAnswer;
 use meaning::Refusal;
 use meaning::sizes::OFFERED;
+use meaning::sizes::PHASE_PLACE;
 use meaning::sizes::TIME_PLACE;
 use program_part::held::variables;
 use run_allowed::examine;
@@ -77,7 +78,7 @@ fn advance(t: &[u8], r: &mut [u8], time: u32)
     requires { ⌜ recordLength ≤ length (now r) ⌝ }
     ensures { λ _. ⌜ now (r .exit) ≡ offeredRecord (now (t .entry)) (now (r .entry)) time ⌝ }
 {
-    store(r, 0, OFFERED);
+    store(r, PHASE_PLACE, OFFERED);
     put_time(r, TIME_PLACE, time);
     check_marks(t, r, time);
 }

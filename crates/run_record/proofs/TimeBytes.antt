@@ -5,11 +5,11 @@ use mathlib.Core.Path.{_≡_, _∙_}
 use mathlib.Core.List.{List}
 use lib.ListN.{getD, set}
 use lib.Seq.{sets}
-use Rattle.meaning.specs.Sizes.{timeWidth, littleEndian}
+use Rattle.meaning.specs.Sizes.{timeWidth, littleEndian, byteValues}
 use Rattle.meaning.specs.Record.{timeAt}
 
 -- read
-pub time-made : (r : List ℕ) (i x : ℕ) → x ≡ getD r i 0 + 256 * (getD r (i + 1) 0 + 256 * (getD r (i + 2) 0 + 256 * getD r (i + 3) 0)) → x ≡ timeAt r i
+pub time-made : (r : List ℕ) (i x : ℕ) → x ≡ getD r i 0 + byteValues * (getD r (i + 1) 0 + byteValues * (getD r (i + 2) 0 + byteValues * getD r (i + 3) 0)) → x ≡ timeAt r i
 time-made r i x x-is =
     let u : i + 1 ≡ suc i = omega arith in
     let v : i + 2 ≡ suc (suc i) = omega arith in
@@ -17,7 +17,7 @@ time-made r i x x-is =
     x-is ∙ rw (u, v, w)
 
 -- stored
-pub time-stored : (r a b c d : List ℕ) (i x : ℕ) → a ≡ set r i (x % 256) → b ≡ set a (i + 1) (x / 256 % 256) → c ≡ set b (i + 2) (x / 256 / 256 % 256) → d ≡ set c (i + 3) (x / 256 / 256 / 256 % 256) → d ≡ sets r i (littleEndian timeWidth x)
+pub time-stored : (r a b c d : List ℕ) (i x : ℕ) → a ≡ set r i (x % byteValues) → b ≡ set a (i + 1) (x / byteValues % byteValues) → c ≡ set b (i + 2) (x / byteValues / byteValues % byteValues) → d ≡ set c (i + 3) (x / byteValues / byteValues / byteValues % byteValues) → d ≡ sets r i (littleEndian timeWidth x)
 time-stored r a b c d i x a-is b-is c-is d-is =
     let u : i + 1 ≡ suc i = omega arith in
     let v : i + 2 ≡ suc (suc i) = omega arith in

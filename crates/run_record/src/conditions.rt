@@ -4,6 +4,10 @@ use crate::fields::start_of;
 use base::wide;
 use meaning::Operand;
 use meaning::Outcome;
+use meaning::kinds::AT_LEAST;
+use meaning::kinds::BELOW;
+use meaning::kinds::DIFFERS;
+use meaning::kinds::EQUALS;
 use program_part::kinds::value;
 ghost use mathlib.Core.Path.{_≡_};
 ghost use mathlib.Core.Bool.{true, cond, not};
@@ -83,10 +87,10 @@ pub fn outcome(t: &[u8], r: &[u8], est: &[u8], time: u32, o: Operand) -> Outcome
 {
     let test = o.b0;
     match test {
-        1 => decided(reached(est, o)),
-        2 => decided(!reached(est, o)),
-        3 => on_clock(r, o.b1, at_least(r, time, o)),
-        4 => on_clock(r, o.b1, below(r, time, o)),
+        EQUALS => decided(reached(est, o)),
+        DIFFERS => decided(!reached(est, o)),
+        AT_LEAST => on_clock(r, o.b1, at_least(r, time, o)),
+        BELOW => on_clock(r, o.b1, below(r, time, o)),
         _ => Outcome::Open,
     }
 }

@@ -3,30 +3,35 @@
 use base::at;
 use base::wide;
 use meaning::Number;
+use meaning::index;
+use meaning::sizes::BYTE_VALUES;
 use meaning::sizes::MARKS_PLACE;
+use meaning::sizes::PHASE_PLACE;
 use meaning::sizes::STARTED_PLACE;
 use meaning::sizes::STARTS_PLACE;
 use meaning::sizes::TIME;
 use meaning::sizes::TIME_PLACE;
+use meaning::sizes::UNMARKED;
 ghost use mathlib.Core.Path.{_≡_};
 ghost use mathlib.Core.Bool.{not};
 ghost use Prim.Native.Nat.{_+_, _*_, _<_, _≤_};
 ghost use lib.Dec.{eqb};
 ghost use lib.ListN.{length, getD};
-ghost use Rattle.meaning.specs.Sizes.{maxClocks, timeWidth};
+ghost use Rattle.meaning.specs.Sizes.{byteValues, maxClocks, timeWidth};
 ghost use Rattle.meaning.specs.Record.{startedPlace, startsPlace, marksPlace, recordLength, timeAt, phaseOf, lastTime, isMark};
 
 pub fn phase(r: &[u8]) -> u8
     ensures { λ b. ⌜ b ≡ phaseOf (now (r .entry)) ⌝ }
 {
-    at(r, 0)
+    at(r, PHASE_PLACE)
 }
 
 // The time of four bytes, the low one first.
 pub fn time_of(b0: u8, b1: u8, b2: u8, b3: u8) -> u32
-    ensures { λ x. ⌜ x ≡ b0 + 256 * (b1 + 256 * (b2 + 256 * b3)) ⌝ }
+    ensures { λ x. ⌜ x ≡ b0 + byteValues * (b1 + byteValues * (b2 + byteValues * b3)) ⌝ }
 {
-    (b0 as u32) + 256 * ((b1 as u32) + 256 * ((b2 as u32) + 256 * (b3 as u32)))
+    (b0 as u32)
+        + BYTE_VALUES * ((b1 as u32) + BYTE_VALUES * ((b2 as u32) + BYTE_VALUES * (b3 as u32)))
 }
 
 // The time whose first byte stands at place i.
@@ -66,5 +71,5 @@ pub fn is_marked(r: &[u8], p: Number) -> bool
     requires { ⌜ marksPlace + p < length (now r) ⌝ }
     ensures { λ b. ⌜ b ≡ isMark (getD (now (r .entry)) (marksPlace + p) 0) ⌝ }
 {
-    r[MARKS_PLACE + wide(p)] != 0
+    r[MARKS_PLACE + index(p)] != UNMARKED
 }

@@ -9,10 +9,13 @@ use base::wide;
 use meaning::Answer;
 use meaning::Refusal;
 use meaning::SettleAnswer;
+use meaning::index;
 use meaning::sizes::ESTIMATE_PLACE;
 use meaning::sizes::FINISHED;
 use meaning::sizes::MARKS_PLACE;
 use meaning::sizes::MAX_MARKS;
+use meaning::sizes::PHASE_PLACE;
+use meaning::sizes::UNMARKED;
 use meaning::sizes::WAITING;
 use program_part::held::parts;
 use program_part::held::variables;
@@ -62,7 +65,7 @@ fn judge(t: &[u8], r: &[u8], est: &[u8], m: &mut [u8]) -> Answer
         return answer;
     };
     settle_marks(t, r, est, m);
-    if (at(m, 0) == 0) | works(t, m) {
+    if (at(m, 0) == UNMARKED) | works(t, m) {
         Answer::Done
     } else {
         Answer::Refused(Refusal::NothingAtWork)
@@ -73,7 +76,11 @@ fn judge(t: &[u8], r: &[u8], est: &[u8], m: &mut [u8]) -> Answer
 fn phase_after(m: &[u8]) -> u8
     ensures { λ b. ⌜ b ≡ cond (rootEnded (now (m .entry))) finished waiting ⌝ }
 {
-    if at(m, 0) == 0 { FINISHED } else { WAITING }
+    if at(m, 0) == UNMARKED {
+        FINISHED
+    } else {
+        WAITING
+    }
 }
 
 // Writes the record after a settling that left the marks m. The clocks are started by the marks that
@@ -87,9 +94,9 @@ fn commit(t: &[u8], r: &mut [u8], est: &[u8], m: &[u8])
     ensures { λ _. ⌜ now (r .exit) ≡ settledRecord (now (t .entry)) (now (r .entry)) (now (est .entry)) ⌝ }
 {
     start_clocks(t, r);
-    store(r, 0, phase_after(m));
+    store(r, PHASE_PLACE, phase_after(m));
     copy_inside(est, 0, r, ESTIMATE_PLACE, wide(variables(t)));
-    copy_inside(m, 0, r, MARKS_PLACE, wide(parts(t)));
+    copy_inside(m, 0, r, MARKS_PLACE, index(parts(t)));
 }
 
 // Settles a cycle: refusals 9, 10, 14, 11, 13, 15.
@@ -102,7 +109,7 @@ pub fn settle(t: &[u8], r: &mut [u8], est: &[u8]) -> SettleAnswer
         return SettleAnswer::Refused(why);
     }
     commit(t, r, est, &m);
-    if at(&m, 0) == 0 {
+    if at(&m, 0) == UNMARKED {
         SettleAnswer::Finished
     } else {
         SettleAnswer::Running

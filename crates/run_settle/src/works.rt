@@ -1,8 +1,13 @@
 // Whether something is left that can end or decide: what refusal 15 asks of the marks after a
 // settling.
-use base::wide;
 use meaning::Form;
 use meaning::Number;
+use meaning::index;
+use meaning::kinds::CHOICE;
+use meaning::kinds::GOAL;
+use meaning::kinds::START;
+use meaning::kinds::WAIT;
+use meaning::sizes::UNMARKED;
 use program_part::held::end_at;
 use program_part::held::parts;
 use program_walk::walker::entry_at;
@@ -26,8 +31,8 @@ fn shows(t: &[u8], m: &[u8], p: Number, pending: Number) -> bool
 {
     let part = entry_at(t, Form::Table, p);
     let kind = part.kind;
-    let leaf = (kind == 1) | ((kind == 2) | (kind == 3));
-    (m[wide(p)] != 0) & (leaf | ((pending != 0) & (pending <= p)))
+    let leaf = (kind == GOAL) | ((kind == START) | (kind == WAIT));
+    (m[index(p)] != UNMARKED) & (leaf | ((pending != 0) & (pending <= p)))
 }
 
 // The end of the CHOICE that is still without a marked part inside after part p, 0 for none.
@@ -37,11 +42,11 @@ fn pending_after(t: &[u8], m: &[u8], p: Number, pending: Number) -> Number
     requires { ⌜ p < parts (now t) ⌝ }
     ensures { λ e. ⌜ e ≡ pendingAfter (now (t .entry)) p (getD (now (m .entry)) p 0) pending ⌝ }
 {
-    if m[wide(p)] == 0 {
+    if m[index(p)] == UNMARKED {
         return pending;
     }
     let part = entry_at(t, Form::Table, p);
-    if part.kind == 7 { end_at(t, p) } else { 0 }
+    if part.kind == CHOICE { end_at(t, p) } else { 0 }
 }
 
 // Whether a leaf or a deciding CHOICE is marked.

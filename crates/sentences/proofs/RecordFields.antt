@@ -11,7 +11,7 @@ use lib.Seq.{sets, length-sets}
 use Rattle.base.specs.Lists.{flat, bytesAt}
 use Rattle.base.proofs.Lists.{length-tabulate, getD-tabulate, tabulate-same}
 use Rattle.base.proofs.Stores.{length-bytes, getD-bytes, drop-bytes, bytes-sets-out, bytes-sets, drop-sets-out}
-use Rattle.meaning.specs.Sizes.{maxParts, timeWidth, littleEndian, valueFrom}
+use Rattle.meaning.specs.Sizes.{maxParts, timeWidth, littleEndian, valueFrom, timeLimit, byteValues}
 use Rattle.meaning.specs.Program.{parts, variables, clocks}
 use Rattle.meaning.specs.Table.{isTable}
 use Rattle.meaning.specs.Record.{timePlace, estimatePlace, startedPlace, startsPlace, marksPlace, recordLength, timeAt, phaseOf, lastTime, estimateIn, startedIn, startsIn, marksIn, offered, waiting, finished}
@@ -125,16 +125,16 @@ times-same : (t r q : List ℕ) → bytesAt r startsPlace (timeWidth * clocks t)
 times-same t r q e =
     tabulate-same (λ c. timeAt r (startsPlace + timeWidth * c)) (λ c. timeAt q (startsPlace + timeWidth * c)) 0 (clocks t) (λ c a b. time-same r q startsPlace (timeWidth * clocks t) e (timeWidth * c) (omega arith))
 
-time-small : (r : List ℕ) → ((i : ℕ) → getD r i 0 < 256) → (i : ℕ) → timeAt r i < 256 ^ timeWidth
+time-small : (r : List ℕ) → ((i : ℕ) → getD r i 0 < byteValues) → (i : ℕ) → timeAt r i < timeLimit
 time-small r small i = omega (arith, small i, small (suc i), small (suc (suc i)), small (suc (suc (suc i))))
 
-times-read : (t r xs : List ℕ) → length xs ≡ clocks t → ((c : ℕ) → c < length xs → getD xs c 0 < 256 ^ timeWidth) → startsPlace + timeWidth * clocks t ≤ length r → bytesAt r startsPlace (timeWidth * clocks t) ≡ flat (littleEndian timeWidth) xs → startsIn t r ≡ xs
+times-read : (t r xs : List ℕ) → length xs ≡ clocks t → ((c : ℕ) → c < length xs → getD xs c 0 < timeLimit) → startsPlace + timeWidth * clocks t ≤ length r → bytesAt r startsPlace (timeWidth * clocks t) ≡ flat (littleEndian timeWidth) xs → startsIn t r ≡ xs
 times-read t r xs n small long e =
     rw (← n) (times-back r xs (drop (startsPlace + timeWidth * clocks t) r) startsPlace 0 (rw e at (drop-bytes r startsPlace (timeWidth * clocks t) long)) small)
 
 -- "The phase becomes 1 and the time becomes the last time"; the marks are those that the check leaves, and all else stays
 module _ (t r : List ℕ) (time room : ℕ) (h : offerRefusal t r time room ≡ 0) where
-  pub offered-record : time < 256 ^ timeWidth → Fields t (offeredInto t r time room) offered time (estimateIn t r) (startedIn t r) (startsIn t r) (checkedMarks t r time) (drop recordLength r)
+  pub offered-record : time < timeLimit → Fields t (offeredInto t r time room) offered time (estimateIn t r) (startedIn t r) (startsIn t r) (checkedMarks t r time) (drop recordLength r)
   unfolding offeredInto
   offered-record fits =
       let a = put-all (fields t) (in-order t (offer-tests t r time room h .0)) ((0, offered ∷ []) ∷ (1, littleEndian timeWidth time) ∷ (5, checkedMarks t r time) ∷ [])
@@ -158,14 +158,14 @@ module _ (t r est : List ℕ) (h : settleRefusal t r est ≡ 0) where
   abbrev times : List ℕ
   times = clockStarts (clocks t) (startingLeaves t r) (startedIn t r) (startsIn t r) (lastTime r)
 
-  times-small : ((i : ℕ) → getD r i 0 < 256) → (c : ℕ) → c < clocks t → getD times c 0 < 256 ^ timeWidth
+  times-small : ((i : ℕ) → getD r i 0 < byteValues) → (c : ℕ) → c < clocks t → getD times c 0 < timeLimit
   times-small bytes =
-      starts-below (clocks t) (startingLeaves t r) (startedIn t r) (startsIn t r) (lastTime r) (256 ^ timeWidth)
+      starts-below (clocks t) (startingLeaves t r) (startedIn t r) (startsIn t r) (lastTime r) (timeLimit)
       (λ c l. rw getD-tabulate (time-small r bytes (startsPlace + timeWidth * (0 + c))))
       (time-small r bytes timePlace)
 
   -- a time is read back where the record is one of bytes
-  pub settled-record : ((i : ℕ) → getD r i 0 < 256)
+  pub settled-record : ((i : ℕ) → getD r i 0 < byteValues)
       → Fields t (settledInto t r est) (cond (rootEnded (settledMarks t r est)) finished waiting) (lastTime r) est flags times (settledMarks t r est) (drop recordLength r)
   unfolding settledInto
   settled-record bytes =

@@ -31,8 +31,8 @@ copy-inside-requires c κs =
 parts-requires : tie.Need-parts-requires
 parts-requires c κs = search needs
 
-wide-requires-2 : tie.Need-wide-requires-2
-wide-requires-2 c κs = search needs
+index-requires : tie.Need-index-requires
+index-requires c κs = search needs
 
 copy-inside-requires-2 : tie.Need-copy-inside-requires-2
 copy-inside-requires-2 c κs =
@@ -40,7 +40,7 @@ copy-inside-requires-2 c κs =
     let phase = estimate .before .before .before .before .before .before in
     let clocks = phase .before .before .before .before .before in
     let given = clocks .before .before .before .before .before .before .pre in
-    marks-fit _ _ _ _ _ (given .0) (given .1 .1 .0) (c .before .parts .ensures) (c .wide2 .ensures) (omega (arith, allowed-long _ _ (given .1 .0), clocks .start-clocks .kept, phase .store .kept, estimate .copy-inside .kept))
+    marks-fit _ _ _ _ _ (given .0) (given .1 .1 .0) (c .before .parts .ensures) (c .index .ensures) (omega (arith, allowed-long _ _ (given .1 .0), clocks .start-clocks .kept, phase .store .kept, estimate .copy-inside .kept))
 
 same-length : tie.Need-same-length
 same-length c = search needs
@@ -52,7 +52,7 @@ returns c =
     let phase = estimate .before .before .before .before .before .before in
     let clocks = phase .before .before .before .before .before in
     let given = clocks .before .before .before .before .before .before .pre in
-    record-committed _ _ _ _ (given .0) (given .1 .1 .1 .0) (given .1 .1 .1 .1) _ _ _ _ _ _ _ _ _ (clocks .start-clocks .ensures) (phase .before .phase-after .ensures) (phase .store .ensures) (estimate .before .before .variables .ensures) (estimate .before .wide .ensures) (estimate .copy-inside .ensures) (marks .before .before .parts .ensures) (marks .before .wide2 .ensures) (marks .copy-inside2 .ensures)
+    record-committed _ _ _ _ (given .0) (given .1 .1 .1 .0) (given .1 .1 .1 .1) _ _ _ _ _ _ _ _ _ (clocks .start-clocks .ensures) (phase .before .phase-after .ensures) (phase .store .ensures) (estimate .before .before .variables .ensures) (estimate .before .wide .ensures) (estimate .copy-inside .ensures) (marks .before .before .parts .ensures) (marks .before .index .ensures) (marks .copy-inside2 .ensures)
 
 pub commit-spec : {M : Type 1} → statement M
 commit-spec =
@@ -65,7 +65,7 @@ commit-spec =
     wide-requires
     copy-inside-requires
     parts-requires
-    wide-requires-2
+    index-requires
     copy-inside-requires-2
     same-length
     returns)

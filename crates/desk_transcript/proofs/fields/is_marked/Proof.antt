@@ -3,8 +3,8 @@ use borrow.Author.Needs.{needs}
 use Rattle.desk_transcript.proofs.fields.is_marked.Statement.{statement}
 use Rattle.desk_transcript.proofs.fields.is_marked.Tie as tie
 
-wide-requires : tie.Need-wide-requires
-wide-requires c κs = search needs
+index-requires : tie.Need-index-requires
+index-requires c κs = search needs
 
 add-at : tie.Need-add-at
 add-at c = search needs
@@ -16,4 +16,4 @@ returns : tie.Need-returns
 returns c = cc
 
 pub is-marked-spec : {M : Type 1} → statement M
-is-marked-spec = tie.close (tie.spec wide-requires add-at at-requires returns)
+is-marked-spec = tie.close (tie.spec index-requires add-at at-requires returns)

@@ -6,18 +6,18 @@ use native.Mathlib.Omega.{arith}
 use lib.ListN.{length, drop}
 use lib.Seq.{sets}
 use Rattle.base.specs.Lists.{flat}
-use Rattle.meaning.specs.declared.Form.the-variants.{Table}
-use Rattle.meaning.specs.Sizes.{headerLength}
+use Rattle.meaning.specs.declared.Form.the-variants.{File, Table}
+use Rattle.meaning.specs.Sizes.{headerLength, kindPlace}
 use Rattle.meaning.specs.Program.{parts, entries, kindByte}
 use Rattle.program_decompile.proofs.Writes.{entry-end, kind-step}
 use Rattle.program_decompile.proofs.arrays.write_kinds.Statement.{statement}
 use Rattle.program_decompile.proofs.arrays.write_kinds.Tie as tie
 
 abbrev Inv-loop : tie.InvT-loop
-Inv-loop table file₀ p₀ p-end file p = (length file ≡ length file₀) × (sets file (headerLength + p) (flat kindByte (drop p (entries Table table))) ≡ sets file₀ headerLength (flat kindByte (entries Table table)))
+Inv-loop table file₀ n p₀ file p = (length file ≡ length file₀) × (sets file (kindPlace File n p) (flat kindByte (drop p (entries Table table))) ≡ sets file₀ headerLength (flat kindByte (entries Table table)))
 
 abbrev μ-loop : tie.MeasureT-loop
-μ-loop table file₀ p₀ p-end file p = p-end - p
+μ-loop table file₀ n p₀ file p = n - p
 
 parts-requires : tie.Need-parts-requires Inv-loop μ-loop
 parts-requires c κs = search needs
@@ -28,11 +28,8 @@ loop-holds c = (refl, refl)
 entry-at-requires : tie.Need-entry-at-requires Inv-loop μ-loop
 entry-at-requires c κs = search needs
 
-wide-requires : tie.Need-wide-requires Inv-loop μ-loop
-wide-requires c κs = search needs
-
-add-store : tie.Need-add-store Inv-loop μ-loop
-add-store c = omega arith
+kind-place-requires : tie.Need-kind-place-requires Inv-loop μ-loop
+kind-place-requires c κs = search needs
 
 store-requires : tie.Need-store-requires Inv-loop μ-loop
 store-requires c κs = search needs
@@ -44,10 +41,14 @@ loop-less : tie.Need-loop-less Inv-loop μ-loop
 loop-less c = omega arith
 
 loop-again : tie.Need-loop-again Inv-loop μ-loop
-loop-again c = (
-  c .before .before .store .kept .0 ∙ c .before .before .before .before .before .before .before .loop .inv .0,
-  kind-step _ _ _ _ _ _ _ _ (c .before .before .before .before .before .before .before .before .parts .ensures) (c .before .before .before .before .before .before .before .loop .inv .1) (c .before .before .before .before .before .before .loop-test .taken) (c .before .before .before .before .before .entry-at .ensures) (c .before .before .before .wide .ensures) (c .before .before .store .ensures),
-)
+loop-again c =
+    let stored = c .before .before in
+    let entry = stored .before .before .before in
+    let turn = entry .before in
+    let loop = turn .before in (
+      stored .store .kept .0 ∙ loop .loop .inv .0,
+      kind-step _ _ _ _ _ _ _ _ (loop .before .parts .ensures) (loop .loop .inv .1) (turn .loop-test .taken) (entry .entry-at .ensures) (stored .before .kind-place .ensures) (stored .store .ensures),
+    )
 
 same-length : tie.Need-same-length Inv-loop μ-loop
 same-length c = c .before .loop .inv .0
@@ -64,8 +65,7 @@ write-kinds-spec =
     parts-requires
     loop-holds
     entry-at-requires
-    wide-requires
-    add-store
+    kind-place-requires
     store-requires
     add-p
     loop-less

@@ -9,8 +9,8 @@ enum-told c = search needs
 add-result : tie.Need-add-result
 add-result c = search needs
 
-wide-requires : tie.Need-wide-requires
-wide-requires c κs = search needs
+index-requires : tie.Need-index-requires
+index-requires c κs = search needs
 
 mul-result : tie.Need-mul-result
 mul-result c = search needs
@@ -21,8 +21,8 @@ add-result-2 c = search needs
 enum-told-2 : tie.Need-enum-told-2
 enum-told-2 c = search needs
 
-wide-requires-2 : tie.Need-wide-requires-2
-wide-requires-2 c κs = search needs
+index-requires-2 : tie.Need-index-requires-2
+index-requires-2 c κs = search needs
 
 mul-result-2 : tie.Need-mul-result-2
 mul-result-2 c = search needs
@@ -42,11 +42,11 @@ length-of-spec =
     (tie.spec
     enum-told
     add-result
-    wide-requires
+    index-requires
     mul-result
     add-result-2
     enum-told-2
-    wide-requires-2
+    index-requires-2
     mul-result-2
     add-result-3
     returns

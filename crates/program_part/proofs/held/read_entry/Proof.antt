@@ -4,8 +4,8 @@ use Rattle.program_part.proofs.Places.{first-inside, kind-inside, opera
 use Rattle.program_part.proofs.held.read_entry.Statement.{statement}
 use Rattle.program_part.proofs.held.read_entry.Tie as tie
 
-shared-slice-read-n : tie.Need-shared-slice-read-n
-shared-slice-read-n c = search first-inside
+read-number-requires : tie.Need-read-number-requires
+read-number-requires c κs = search first-inside
 
 kind-place-requires : tie.Need-kind-place-requires
 kind-place-requires c κs = search needs
@@ -26,7 +26,7 @@ pub read-entry-spec : {M : Type 1} → statement M
 read-entry-spec =
     tie.close
     (tie.spec
-    shared-slice-read-n
+    read-number-requires
     kind-place-requires
     shared-slice-read-kind
     operand-place-requires

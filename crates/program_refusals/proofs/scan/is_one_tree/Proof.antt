@@ -1,9 +1,10 @@
--- `is_one_tree` meets its contract: at each turn the entries that are left fill what is due exactly where all entries fill one place; each turn adds at most 255 to what is due.
+-- `is_one_tree` meets its contract: at each turn the entries that are left fill what is due exactly where all entries fill one place; each turn adds a number to what is due.
 use Prim.Native.Nat.{_+_, _-_, _*_, _≤_}
 use mathlib.Core.Path.{_≡_, refl}
 use lib.ListN.{drop}
 use borrow.Author.Needs.{needs}
 use Rattle.meaning.specs.declared.Form.the-variants.{File}
+use Rattle.meaning.specs.Sizes.{numberLimit}
 use Rattle.meaning.specs.Program.{entries}
 use Rattle.program_refusals.specs.Counting.{fills}
 use Rattle.program_refusals.proofs.Scans.{fills-next, fills-stops, fills-ends}
@@ -11,7 +12,7 @@ use Rattle.program_refusals.proofs.scan.is_one_tree.Statement.{statemen
 use Rattle.program_refusals.proofs.scan.is_one_tree.Tie as tie
 
 abbrev Inv-loop : tie.InvT-loop
-Inv-loop s due₀ p₀ p-end due p = (due ≤ 1 + 255 * p) × (fills (drop p (entries File s)) due ≡ fills (entries File s) 1)
+Inv-loop s due₀ p₀ p-end due p = (due ≤ 1 + numberLimit * p) × (fills (drop p (entries File s)) due ≡ fills (entries File s) 1)
 
 abbrev μ-loop : tie.MeasureT-loop
 μ-loop s due₀ p₀ p-end due p = p-end - p
@@ -34,8 +35,8 @@ entry-at-requires c κs = search needs
 arity-requires : tie.Need-arity-requires Inv-loop μ-loop
 arity-requires c κs = search needs
 
-wide-requires : tie.Need-wide-requires Inv-loop μ-loop
-wide-requires c κs = search needs
+index-requires : tie.Need-index-requires Inv-loop μ-loop
+index-requires c κs = search needs
 
 add-due : tie.Need-add-due Inv-loop μ-loop
 add-due c = search needs
@@ -64,7 +65,7 @@ is-one-tree-spec =
     sub-due
     entry-at-requires
     arity-requires
-    wide-requires
+    index-requires
     add-due
     add-p
     loop-less

@@ -5,6 +5,7 @@ use mathlib.Core.Path.{_≡_, refl}
 use lib.ListN.{length}
 use borrow.Author.Needs.{needs}
 use Rattle.meaning.specs.declared.Form.the-variants.{File}
+use Rattle.meaning.specs.Sizes.{numberLimit}
 use Rattle.meaning.specs.Kinds.{kindOf}
 use Rattle.meaning.specs.Program.{parts}
 use Rattle.program_rows.specs.Rows.{Forest, written, endOf}
@@ -33,40 +34,33 @@ loop-holds c =
     let pre = c .before .before .before .before .pre in
     (refl, (rowing-first _ _ _ _ _ (pre .0 .stands) (c .before .entry-at .ensures) (c .arity .ensures), pre .1 .1))
 
-wide-requires : tie.Need-wide-requires Inv-loop μ-loop
-wide-requires c κs = search needs
+row-place-requires : tie.Need-row-place-requires Inv-loop μ-loop
+row-place-requires c κs = search needs
 
-mul-e : tie.Need-mul-e Inv-loop μ-loop
-mul-e c =
-    let here = rowing-stands _ _ _ _ _ _ _ _ (c .before .before .loop .inv .1 .0) (c .before .loop-test .taken) in
-    omega (arith, stands-below File _ _ here, c .before .before .before .before .before .before .shared-slice-known .given 0, c .wide .ensures)
-
-add-e : tie.Need-add-e Inv-loop μ-loop
-add-e c =
-    let here = rowing-stands _ _ _ _ _ _ _ _ (c .before .before .loop .inv .1 .0) (c .before .loop-test .taken) in
-    omega (arith, stands-below File _ _ here, c .before .before .before .before .before .before .shared-slice-known .given 0, c .wide .ensures)
-
-add-e-2 : tie.Need-add-e-2 Inv-loop μ-loop
-add-e-2 c =
-    let here = rowing-stands _ _ _ _ _ _ _ _ (c .before .before .loop .inv .1 .0) (c .before .loop-test .taken) in
-    omega (arith, stands-below File _ _ here, c .before .before .before .before .before .before .shared-slice-known .given 0, c .wide .ensures)
-
-slice-read-e : tie.Need-slice-read-e Inv-loop μ-loop
-slice-read-e c =
+add-read-number : tie.Need-add-read-number Inv-loop μ-loop
+add-read-number c =
     let turn = c .before .before in
-    let pre = turn .before .before .before .before .before .before .pre in
+    let entry = turn .before .before .before in
     let here = rowing-stands _ _ _ _ _ _ _ _ (turn .before .loop .inv .1 .0) (turn .loop-test .taken) in
-    omega (arith, stands-below File _ _ here, pre .1 .0, turn .before .loop .inv .0, c .before .wide .ensures)
+    omega (arith, stands-below File _ _ here, entry .before .before .shared-slice-known .given 0, c .row-place .ensures)
+
+read-number-requires : tie.Need-read-number-requires Inv-loop μ-loop
+read-number-requires c κs =
+    let turn = c .before .before in
+    let entry = turn .before .before .before in
+    let here = rowing-stands _ _ _ _ _ _ _ _ (turn .before .loop .inv .1 .0) (turn .loop-test .taken) in
+    omega (arith, stands-below File _ _ here, entry .before .before .before .pre .1 .0, turn .before .loop .inv .0, c .row-place .ensures)
 
 next-of-requires : tie.Need-next-of-requires Inv-loop μ-loop
 next-of-requires c κs = search needs
 
 put-links-requires : tie.Need-put-links-requires Inv-loop μ-loop
 put-links-requires c κs =
-    let turn = c .before .before .before .before in
-    let pre = turn .before .before .before .before .before .before .pre in
+    let place = c .before .before .before in
+    let turn = place .before .before in
+    let entry = turn .before .before .before in
     let here = rowing-stands _ _ _ _ _ _ _ _ (turn .before .loop .inv .1 .0) (turn .loop-test .taken) in
-    omega (arith, stands-below File _ _ here, pre .1 .0, turn .before .loop .inv .0)
+    omega (arith, stands-below File _ _ here, entry .before .before .before .pre .1 .0, turn .before .loop .inv .0)
 
 sub-due : tie.Need-sub-due Inv-loop μ-loop
 sub-due c = omega arith
@@ -78,24 +72,29 @@ loop-again : tie.Need-loop-again Inv-loop μ-loop
 loop-again c =
     let links = c .before .before in
     let next = links .before .before in
-    let turn = next .before .before .before in
-    let start = turn .before .before .before .before .before .before in
+    let place = next .before .before in
+    let turn = place .before .before in
+    let known = turn .before .before .before .before .before in
     let inv = turn .before .loop .inv .1 in
-    let small : parts (start .args .s .now) < 256 = omega (arith, turn .before .before .before .before .before .shared-slice-known .given 0) in
-    let next-fits : next .next-of .result < 256 = omega (arith, next .next-of .ok) in
-    let ends = end-read _ _ _ _ _ _ _ _ (inv .0) (turn .loop-test .taken) (inv .1) small _ _ (next .before .before .wide .ensures) refl in (
+    let small : parts (known .before .args .s .now) < numberLimit = omega (arith, known .shared-slice-known .given 0) in
+    let ends = end-read _ _ _ _ _ _ _ _ (inv .0) (turn .loop-test .taken) (inv .1) small _ _ (place .row-place .ensures) (next .before .read-number .ensures) in (
       omega (arith, links .put-links .kept, turn .before .loop .inv .0),
       (
-        link-child _ _ _ _ _ _ _ _ (inv .0) (turn .loop-test .taken) (inv .1) small _ _ _ ends (start .fits .p .fits) next-fits (links .put-links .ensures) _ refl (next .next-of .ensures),
-        others-stand _ _ _ _ _ _ _ _ (inv .0) (turn .loop-test .taken) (inv .1) small _ _ _ ends (start .fits .p .fits) next-fits (links .put-links .ensures),
+        link-child _ _ _ _ _ _ _ _ (inv .0) (turn .loop-test .taken) (inv .1) small _ _ _ ends (links .put-links .ensures) _ refl (next .next-of .ensures),
+        others-stand _ _ _ _ _ _ _ _ (inv .0) (turn .loop-test .taken) (inv .1) small _ _ _ ends (links .put-links .ensures),
       ),
     )
 
 put-row-requires : tie.Need-put-row-requires Inv-loop μ-loop
-put-row-requires c κs = omega (arith, stands-below File _ _ (c .before .before .before .before .before .before .before .pre .0 .stands), c .before .before .before .before .before .before .before .pre .1 .0, c .before .before .loop .inv .0)
+put-row-requires c κs =
+    let loop = c .before .before in
+    let pre = loop .before .before .before .before .before .pre in
+    omega (arith, stands-below File _ _ (pre .0 .stands), pre .1 .0, loop .loop .inv .0)
 
 same-length : tie.Need-same-length Inv-loop μ-loop
-same-length c = omega (arith, c .before .before .put-row .kept, c .before .before .before .before .before .loop .inv .0)
+same-length c =
+    let row = c .before .before in
+    omega (arith, row .put-row .kept, row .before .before .before .loop .inv .0)
 
 returns : tie.Need-returns Inv-loop μ-loop
 returns c =
@@ -113,11 +112,9 @@ write-row-spec =
     arity-requires
     add-q
     loop-holds
-    wide-requires
-    mul-e
-    add-e
-    add-e-2
-    slice-read-e
+    row-place-requires
+    add-read-number
+    read-number-requires
     next-of-requires
     put-links-requires
     sub-due

@@ -40,14 +40,8 @@ links-of-requires c κs =
     let rows = c .before in
     (record { long = rows .before .before .before .before .before .pre .0 .long; there = omega (arith, c .rows-test .taken, rows .before .parts .ensures) }, (rows .rows .inv .1 .0, rows .rows .inv .1 .1 .agreeing))
 
-wide-requires : tie.Need-wide-requires Inv-loop μ-loop Inv-rows μ-rows
-wide-requires c κs = search needs
-
-mul-start : tie.Need-mul-start Inv-loop μ-loop Inv-rows μ-rows
-mul-start c = search needs
-
-add-start : tie.Need-add-start Inv-loop μ-loop Inv-rows μ-rows
-add-start c = search needs
+row-place-requires : tie.Need-row-place-requires Inv-loop μ-loop Inv-rows μ-rows
+row-place-requires c κs = search needs
 
 loop-holds : tie.Need-loop-holds Inv-loop μ-loop Inv-rows μ-rows
 loop-holds c = (c .before .before .before .rows .inv .0, row-first _ _)
@@ -65,7 +59,7 @@ shared-slice-read-if2 : tie.Need-shared-slice-read-if2 Inv-loop μ-loop Inv-rows
 shared-slice-read-if2 c =
     let turn = c .before .before .before .before .before .before in
     let rows = turn .before in
-    omega (arith, rows .before .before .before .before .before .pre .0 .long, turn .rows-test .taken, rows .before .parts .ensures, c .before .before .loop-test .taken, c .before .before .before .before .wide .ensures)
+    omega (arith, rows .before .before .before .before .before .pre .0 .long, turn .rows-test .taken, rows .before .parts .ensures, c .before .before .loop-test .taken, c .before .before .before .before .row-place .ensures)
 
 add-j : tie.Need-add-j Inv-loop μ-loop Inv-rows μ-rows
 add-j c = search needs
@@ -76,7 +70,7 @@ loop-less c = search needs
 loop-again : tie.Need-loop-again Inv-loop μ-loop Inv-rows μ-rows
 loop-again c =
     let byte = c .before .before .before in
-    (byte .before .loop .inv .0, all-step _ _ _ _ (byte .loop-test .taken) (byte-agrees _ _ _ _ _ (byte .before .before .wide .ensures) (c .before .before .implied .ensures) (c .if2 .left)) (byte .before .loop .inv .1))
+    (byte .before .loop .inv .0, all-step _ _ _ _ (byte .loop-test .taken) (byte-agrees _ _ _ _ _ (byte .before .before .row-place .ensures) (c .before .before .implied .ensures) (c .if2 .left)) (byte .before .loop .inv .1))
 
 add-p : tie.Need-add-p Inv-loop μ-loop Inv-rows μ-rows
 add-p c = search needs
@@ -100,7 +94,7 @@ returns-3 c =
     let byte = c .before .before .before in
     let turn = byte .before .before .before .before in
     rows-differ _ _ (turn .before .before .parts .ensures) _ (turn .before .rows .inv .1 .1) (turn .rows-test .taken)
-    (all-fails _ _ _ _ (byte .loop-test .taken) (byte-differs _ _ _ _ _ (byte .before .before .wide .ensures) (c .before .before .implied .ensures) (c .if2 .taken)) (byte .before .loop .inv .1))
+    (all-fails _ _ _ _ (byte .loop-test .taken) (byte-differs _ _ _ _ _ (byte .before .before .row-place .ensures) (c .before .before .implied .ensures) (c .if2 .taken)) (byte .before .loop .inv .1))
 
 pub rows-match-spec : {M : Type 1} → statement M
 rows-match-spec =
@@ -115,9 +109,7 @@ rows-match-spec =
     parts-requires
     rows-holds
     links-of-requires
-    wide-requires
-    mul-start
-    add-start
+    row-place-requires
     loop-holds
     implied-requires
     add-if2

@@ -19,8 +19,8 @@ wide-requires-2 c κs = search needs
 parts-requires : tie.Need-parts-requires
 parts-requires c κs = search needs
 
-wide-requires-3 : tie.Need-wide-requires-3
-wide-requires-3 c κs = search needs
+index-requires : tie.Need-index-requires
+index-requires c κs = search needs
 
 add-all-zero : tie.Need-add-all-zero
 add-all-zero c = search needs
@@ -61,7 +61,7 @@ rest-zero-spec =
     clocks-requires
     wide-requires-2
     parts-requires
-    wide-requires-3
+    index-requires
     add-all-zero
     all-zero-requires
     add-all-zero-2

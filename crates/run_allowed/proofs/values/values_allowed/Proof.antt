@@ -19,8 +19,8 @@ wide-requires-2 c κs = search needs
 parts-requires : tie.Need-parts-requires
 parts-requires c κs = search needs
 
-wide-requires-3 : tie.Need-wide-requires-3
-wide-requires-3 c κs = search needs
+index-requires : tie.Need-index-requires
+index-requires c κs = search needs
 
 phase-requires : tie.Need-phase-requires
 phase-requires c κs = search needs
@@ -58,7 +58,7 @@ values-allowed-spec =
     clocks-requires
     wide-requires-2
     parts-requires
-    wide-requires-3
+    index-requires
     phase-requires
     add-all-at-most
     all-at-most-requires

@@ -7,11 +7,11 @@ use borrow.Author.Needs.{needs}
 use Rattle.run_marks.proofs.initialise.begins_in.Statement.{statement}
 use Rattle.run_marks.proofs.initialise.begins_in.Tie as tie
 
-wide-requires : tie.Need-wide-requires
-wide-requires c κs = search needs
+index-requires : tie.Need-index-requires
+index-requires c κs = search needs
 
-wide-requires-2 : tie.Need-wide-requires-2
-wide-requires-2 c κs = search needs
+index-requires-2 : tie.Need-index-requires-2
+index-requires-2 c κs = search needs
 
 add-result : tie.Need-add-result
 add-result c = search needs
@@ -30,7 +30,7 @@ returns-3 c = rw (c .match .keys3)
 
 returns-4 : tie.Need-returns-4
 unfolding kindOf beginsIn
-returns-4 c = rw (c .before .before .match .keys4, c .before .wide .ensures, c .wide2 .ensures, add-one)
+returns-4 c = rw (c .before .before .match .keys4, c .before .index .ensures, c .index2 .ensures, add-one)
 
 returns-5 : tie.Need-returns-5
 unfolding kindOf beginsIn
@@ -56,8 +56,8 @@ pub begins-in-spec : {M : Type 1} → statement M
 begins-in-spec =
     tie.close
     (tie.spec
-    wide-requires
-    wide-requires-2
+    index-requires
+    index-requires-2
     add-result
     returns
     returns-2

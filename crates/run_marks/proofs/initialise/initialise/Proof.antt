@@ -16,8 +16,8 @@ Inv-loop t m₀ from q skip₀ p₀ p-end m skip p = (q < p) × ((length m ≡ l
 abbrev μ-loop : tie.MeasureT-loop
 μ-loop t m₀ from q skip₀ p₀ p-end m skip p = p-end - p
 
-wide-requires : tie.Need-wide-requires Inv-loop μ-loop
-wide-requires c κs = search needs
+index-requires : tie.Need-index-requires Inv-loop μ-loop
+index-requires c κs = search needs
 
 add-store : tie.Need-add-store Inv-loop μ-loop
 add-store c = search needs
@@ -63,7 +63,7 @@ returns : tie.Need-returns Inv-loop μ-loop
 returns c =
     let e = c .before .before in
     fresh-ends _ _ _ _ _ _ _ (c .loop-test .left) (c .before .loop .inv .1 .1)
-    ∙ fresh-starts _ _ _ _ _ _ _ (e .before .before .before .before .wide .ensures) (e .end-at .ensures) (e .before .before .before .store .ensures)
+    ∙ fresh-starts _ _ _ _ _ _ _ (e .before .before .before .before .index .ensures) (e .end-at .ensures) (e .before .before .before .store .ensures)
 
 pub initialise-spec : {M : Type 1} → statement M
 initialise-spec =
@@ -71,7 +71,7 @@ initialise-spec =
     (tie.spec
     Inv-loop
     μ-loop
-    wide-requires
+    index-requires
     add-store
     store-requires
     add-p

@@ -5,8 +5,8 @@ use Rattle.run_marks.proofs.Initialising.{turn-passed, turn-begins, tur
 use Rattle.run_marks.proofs.initialise.turn.Statement.{statement}
 use Rattle.run_marks.proofs.initialise.turn.Tie as tie
 
-wide-requires : tie.Need-wide-requires
-wide-requires c κs = search needs
+index-requires : tie.Need-index-requires
+index-requires c κs = search needs
 
 add-i : tie.Need-add-i
 add-i c = search needs
@@ -51,7 +51,7 @@ pub turn-spec : {M : Type 1} → statement M
 turn-spec =
     tie.close
     (tie.spec
-    wide-requires
+    index-requires
     add-i
     store-requires
     sub-result

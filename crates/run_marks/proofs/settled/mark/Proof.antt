@@ -4,8 +4,8 @@ use Rattle.run_marks.proofs.Settling.{is-there, marked-alone, marked-wi
 use Rattle.run_marks.proofs.settled.mark.Statement.{statement}
 use Rattle.run_marks.proofs.settled.mark.Tie as tie
 
-wide-requires : tie.Need-wide-requires
-wide-requires c κs = search needs
+index-requires : tie.Need-index-requires
+index-requires c κs = search needs
 
 store-requires : tie.Need-store-requires
 store-requires c κs = search needs
@@ -29,7 +29,7 @@ pub mark-spec : {M : Type 1} → statement M
 mark-spec =
     tie.close
     (tie.spec
-    wide-requires
+    index-requires
     store-requires
     initialise-requires
     same-length

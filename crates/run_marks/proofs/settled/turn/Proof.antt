@@ -8,8 +8,8 @@ use Rattle.run_marks.proofs.settled.turn.Tie as tie
 is-marked-requires : tie.Need-is-marked-requires
 is-marked-requires c κs = search mark-inside
 
-wide-requires : tie.Need-wide-requires
-wide-requires c κs = search needs
+index-requires : tie.Need-index-requires
+index-requires c κs = search needs
 
 store-requires : tie.Need-store-requires
 store-requires c κs = search needs
@@ -46,7 +46,7 @@ turn-spec =
     tie.close
     (tie.spec
     is-marked-requires
-    wide-requires
+    index-requires
     store-requires
     same-length
     returns

@@ -5,8 +5,8 @@ use Rattle.run_offer.proofs.Checking.{mark-dropping, skip-drops, skip-b
 use Rattle.run_offer.proofs.checks.turn.Statement.{statement}
 use Rattle.run_offer.proofs.checks.turn.Tie as tie
 
-wide-requires : tie.Need-wide-requires
-wide-requires c κs = search needs
+index-requires : tie.Need-index-requires
+index-requires c κs = search needs
 
 add-store : tie.Need-add-store
 add-store c = search needs
@@ -45,7 +45,7 @@ pub turn-spec : {M : Type 1} → statement M
 turn-spec =
     tie.close
     (tie.spec
-    wide-requires
+    index-requires
     add-store
     store-requires
     sub-result

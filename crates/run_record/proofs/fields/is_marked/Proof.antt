@@ -3,8 +3,8 @@ use borrow.Author.Needs.{needs}
 use Rattle.run_record.proofs.fields.is_marked.Statement.{statement}
 use Rattle.run_record.proofs.fields.is_marked.Tie as tie
 
-wide-requires : tie.Need-wide-requires
-wide-requires c κs = search needs
+index-requires : tie.Need-index-requires
+index-requires c κs = search needs
 
 add-result : tie.Need-add-result
 add-result c = search needs
@@ -16,4 +16,4 @@ returns : tie.Need-returns
 returns c = cc
 
 pub is-marked-spec : {M : Type 1} → statement M
-is-marked-spec = tie.close (tie.spec wide-requires add-result shared-slice-read-result returns)
+is-marked-spec = tie.close (tie.spec index-requires add-result shared-slice-read-result returns)

@@ -5,8 +5,8 @@ use Rattle.run_settle.proofs.Deciding.{pending-kept, pending-choice, pe
 use Rattle.run_settle.proofs.works.pending_after.Statement.{statement}
 use Rattle.run_settle.proofs.works.pending_after.Tie as tie
 
-wide-requires : tie.Need-wide-requires
-wide-requires c κs = search needs
+index-requires : tie.Need-index-requires
+index-requires c κs = search needs
 
 shared-slice-read-if1 : tie.Need-shared-slice-read-if1
 shared-slice-read-if1 c = search needs
@@ -30,7 +30,7 @@ pub pending-after-spec : {M : Type 1} → statement M
 pending-after-spec =
     tie.close
     (tie.spec
-    wide-requires
+    index-requires
     shared-slice-read-if1
     returns
     entry-at-requires

@@ -8,8 +8,8 @@ use Rattle.run_settle.proofs.works.shows.Tie as tie
 entry-at-requires : tie.Need-entry-at-requires
 entry-at-requires c κs = search row-held
 
-wide-requires : tie.Need-wide-requires
-wide-requires c κs = search needs
+index-requires : tie.Need-index-requires
+index-requires c κs = search needs
 
 shared-slice-read-result : tie.Need-shared-slice-read-result
 shared-slice-read-result c = search needs
@@ -18,4 +18,4 @@ returns : tie.Need-returns
 returns c = search shows-made
 
 pub shows-spec : {M : Type 1} → statement M
-shows-spec = tie.close (tie.spec entry-at-requires wide-requires shared-slice-read-result returns)
+shows-spec = tie.close (tie.spec entry-at-requires index-requires shared-slice-read-result returns)
