@@ -10,6 +10,7 @@ pub mod model;
 pub mod programs;
 pub mod record;
 pub mod reference;
+pub mod registers;
 pub mod rehearsal;
 pub mod runs;
 pub mod scripts;

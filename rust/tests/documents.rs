@@ -1,17 +1,6 @@
-//! The documents name what is there: files, lines of definitions, laws and must-fail edits.
+//! The documents name what is there, and their registers are up to date.
 
-use std::collections::HashSet;
-use std::fs;
-use std::path::{Path, PathBuf};
-
-const DOCUMENTS: [&str; 6] = [
-    "README.md",
-    "docs/ARCHITECTURE.md",
-    "docs/ASSURANCE.md",
-    "docs/DECISIONS.md",
-    "docs/DEFINITIONS.md",
-    "docs/PERFORMANCE.md",
-];
+use gurvoke::registers::{all, cells, marked, quoted, renewed, Repository};
 
 /// Folders at the top of the repository, by which a name in a document is known to be a path.
 const FOLDERS: [&str; 5] = ["crates", "docs", "examples", "include", "rust"];
@@ -19,24 +8,21 @@ const FOLDERS: [&str; 5] = ["crates", "docs", "examples", "include", "rust"];
 /// Signs of a path that stands for several, or that is made by building.
 const PATTERN_SIGNS: [&str; 3] = ["*", "NAME", "target/"];
 
-fn top() -> PathBuf {
-    Path::new(env!("CARGO_MANIFEST_DIR")).join("..")
-}
+/// The layers of the crates, each by the first words of its crates, the lowest first.
+const LAYERS: [&[&str]; 6] = [
+    &["base"],
+    &["meaning", "agreement", "sentences", "stations"],
+    &["program"],
+    &["run"],
+    &["desk"],
+    &["gurvoke", "listing", "rehearse"],
+];
 
-fn read(path: &str) -> String {
-    fs::read_to_string(top().join(path)).unwrap_or_else(|error| panic!("{path}: {error}"))
-}
+/// Libraries of the toolchain, which are no crates of the repository.
+const TOOLCHAIN: [&str; 3] = ["os", "io", "libc"];
 
-/// What stands between backquotes, in order.
-fn quoted(text: &str) -> impl Iterator<Item = &str> {
-    text.split('`').skip(1).step_by(2)
-}
-
-/// The cells of a row of a table, if the line is one.
-fn cells(line: &str) -> Option<Vec<&str>> {
-    let inner = line.trim().strip_prefix('|')?.strip_suffix('|')?;
-    Some(inner.split(" | ").map(str::trim).collect())
-}
+/// Characters of the longest line that is no row of a table and no line of a sample.
+const MAX_LINE: usize = 120;
 
 /// A path in backquotes, with the line after its colon, if there is one.
 fn path_in(word: &str) -> Option<(&str, Option<usize>)> {
@@ -51,58 +37,95 @@ fn path_in(word: &str) -> Option<(&str, Option<usize>)> {
     }
 }
 
-/// The files below a folder whose names end so.
-fn files(folder: &Path, ending: &str, found: &mut Vec<PathBuf>) {
-    for entry in fs::read_dir(folder).expect("a folder can be read") {
-        let path = entry.expect("an entry can be read").path();
-        if path.is_dir() {
-            files(&path, ending, found);
-        } else if path.to_string_lossy().ends_with(ending) {
-            found.push(path);
-        }
-    }
+/// A document's text, which the tests change.
+fn definitions() -> String {
+    Repository::here().read("docs/DEFINITIONS.md")
 }
 
-fn files_of_crates(ending: &str) -> Vec<PathBuf> {
-    let mut found = Vec::new();
-    files(&top().join("crates"), ending, &mut found);
-    assert!(found.len() > 50, "{} files end in {ending}", found.len());
-    found
-}
-
-/// Every name that a file of definitions or laws declares, fields of records among them.
-fn declared() -> HashSet<String> {
-    let mut names = HashSet::new();
-    for path in files_of_crates(".antt") {
-        let text = fs::read_to_string(&path).expect("a file can be read");
-        for line in text.lines() {
-            let Some((before, _)) = line.split_once(" : ") else {
-                continue;
-            };
-            names.extend(before.split_whitespace().map(str::to_string));
-        }
-    }
-    names
+/// The fault that a text is refused with.
+fn fault(text: &str) -> String {
+    let made = renewed(&Repository::here(), text);
+    made.expect_err("a text with a fault is refused")
 }
 
 #[test]
 fn paths_are_there() {
+    let repository = Repository::here();
     let mut seen = 0;
-    for document in DOCUMENTS {
-        let text = read(document);
+    for document in repository.documents() {
+        let text = repository.read(&document);
         for (path, _) in quoted(&text).filter_map(path_in) {
-            assert!(top().join(path).exists(), "{document} names {path}");
+            assert!(repository.has(path), "{document} names {path}");
             seen += 1;
         }
     }
-    assert!(seen > 40, "only {seen} paths are named");
+    assert!(seen > 100, "only {seen} paths are named");
 }
 
 #[test]
+fn registers_are_up_to_date() {
+    let repository = Repository::here();
+    for document in repository.documents() {
+        let text = repository.read(&document);
+        let new = renewed(&repository, &text).unwrap_or_else(|fault| panic!("{document}: {fault}"));
+        for (line, made) in text.lines().zip(new.lines()) {
+            assert_eq!(line, made, "{document}: run `cargo run --bin registers`");
+        }
+        assert_eq!(
+            text.len(),
+            new.len(),
+            "{document}: run `cargo run --bin registers`"
+        );
+    }
+}
+
+#[test]
+fn every_register_has_a_marker() {
+    let repository = Repository::here();
+    let documents = repository.documents();
+    let texts: Vec<String> = documents.iter().map(|path| repository.read(path)).collect();
+    for register in all() {
+        let places = texts.iter().flat_map(|text| marked(text));
+        let count = places.filter(|name| *name == register).count();
+        assert_eq!(count, 1, "markers for the register {register}");
+    }
+}
+
+/// The layer of a crate, by its first word.
+fn layer(name: &str) -> usize {
+    let first = name.split('_').next().unwrap_or(name);
+    let found = LAYERS.iter().position(|words| words.contains(&first));
+    found.unwrap_or_else(|| panic!("{name} is of no layer"))
+}
+
+/// What docs/ARCHITECTURE.md says of `crates.txt`: a crate uses lower layers, and what stands before it in its own.
+#[test]
+fn crates_use_lower_layers() {
+    let repository = Repository::here();
+    let mut before: Vec<&str> = TOOLCHAIN.to_vec();
+    for each in &repository.crates {
+        for used in &each.uses {
+            let name = &each.name;
+            assert!(before.contains(&&**used), "{name} stands before {used}");
+            let is_lower = TOOLCHAIN.contains(&&**used) || layer(used) <= layer(name);
+            assert!(is_lower, "{name} uses {used}");
+        }
+        before.push(&each.name);
+    }
+    let library = repository.crates.iter().find(|each| each.name == "gurvoke");
+    let uses = &library.expect("the library is a crate").uses;
+    assert!(
+        uses.iter().all(|used| !used.starts_with("desk_")),
+        "{uses:?}"
+    );
+}
+
+/// The lines that the table of definitions gives, looked up without the registers.
+#[test]
 fn lines_have_their_definitions() {
-    let text = read("docs/DEFINITIONS.md");
+    let repository = Repository::here();
     let mut seen = 0;
-    for row in text.lines().filter_map(cells) {
+    for row in definitions().lines().filter_map(cells) {
         let mut words = row.iter().flat_map(|cell| quoted(cell));
         let Some(name) = words.next() else {
             continue;
@@ -110,7 +133,7 @@ fn lines_have_their_definitions() {
         let Some((path, Some(line))) = words.next().and_then(path_in) else {
             continue;
         };
-        let source = read(path);
+        let source = repository.read(path);
         let found = source.lines().nth(line - 1).unwrap_or("");
         let declares = found.split_whitespace().any(|word| word == name);
         assert!(declares, "{path}:{line} does not declare {name}: {found}");
@@ -120,38 +143,78 @@ fn lines_have_their_definitions() {
 }
 
 #[test]
-fn laws_are_declared() {
-    let names = declared();
-    let text = read("docs/DEFINITIONS.md");
-    let mut in_laws = false;
-    let mut seen = 0;
-    for line in text.lines() {
-        let Some(row) = cells(line) else {
-            in_laws = false;
-            continue;
-        };
-        if row.last() == Some(&"Law") {
-            in_laws = true;
-        } else if in_laws {
-            for law in quoted(row.last().expect("a row has a cell")) {
-                assert!(names.contains(law), "no law or field is called {law}");
-                seen += 1;
-            }
+fn lines_are_short() {
+    let repository = Repository::here();
+    for document in repository.documents() {
+        let text = repository.read(&document);
+        let mut in_sample = false;
+        for line in text.lines() {
+            in_sample ^= line.starts_with("```");
+            let is_free = in_sample || line.starts_with('|');
+            let length = line.chars().count();
+            assert!(
+                is_free || length <= MAX_LINE,
+                "{document}, {length} long: {line}"
+            );
         }
     }
-    assert!(seen > 60, "only {seen} laws are named");
+}
+
+/// A wrong line number is noticed, a definition that is not there, and a law that is not there.
+#[test]
+fn wrong_places_are_noticed() {
+    let text = definitions();
+    let repository = Repository::here();
+    let new = text.replacen("Sizes.antt:", "Sizes.antt:1", 1);
+    assert!(renewed(&repository, &new) == renewed(&repository, &text));
+
+    let new = text.replacen("| `maxParts` |", "| `mostParts` |", 1);
+    assert!(fault(&new).contains("mostParts is declared nowhere"));
+    let new = text.replacen("`seq-one`", "`seq-two`", 1);
+    assert!(fault(&new).contains("seq-two is declared nowhere"));
+    let new = text.replacen(
+        "`Refusals.offer-refused`, `goals",
+        "`offer-refused`, `goals",
+        1,
+    );
+    assert!(fault(&new).contains("offer-refused is declared in crates/"));
+}
+
+/// A crate or an edit that is left out comes back, and one that is not there goes.
+#[test]
+fn wrong_rows_are_noticed() {
+    let repository = Repository::here();
+    for (path, row) in [
+        ("docs/ARCHITECTURE.md", "| `desk_format` |"),
+        ("docs/MUST_FAIL.md", "| `copy` |"),
+        ("docs/ASSURANCE.md", "| must-fail edits |"),
+        ("docs/ASSURANCE.md", "| `desk_calls` |"),
+    ] {
+        let text = repository.read(path);
+        let right = renewed(&repository, &text);
+        let kept = |line: &&str| !line.starts_with(row);
+        let short: String = text.split_inclusive('\n').filter(kept).collect();
+        assert!(short != text, "{path} has no row {row}");
+        assert!(
+            renewed(&repository, &short) == right,
+            "{path} without {row}"
+        );
+
+        let long = text.replacen(row, &format!("| `more` | more |\n{row}"), 1);
+        assert!(
+            renewed(&repository, &long) == right,
+            "{path} with more than {row}"
+        );
+    }
 }
 
 #[test]
-fn must_fail_edits_are_named() {
-    let text = read("docs/DECISIONS.md");
-    let named: HashSet<&str> = quoted(&text).collect();
-    for edit in files_of_crates(".edit") {
-        let name = edit.file_stem().expect("a file has a name");
-        let name = name.to_string_lossy();
-        assert!(
-            named.contains(&*name),
-            "docs/DECISIONS.md does not name {name}"
-        );
-    }
+fn wrong_markers_are_noticed() {
+    let unknown = "<!-- registers: clocks -->\n<!-- end -->\n";
+    assert_eq!(fault(unknown), "no register is called clocks");
+    let open = "<!-- registers: crates -->\n";
+    assert_eq!(fault(open), "crates has no end marker");
+    let twice = "<!-- registers: crates -->\n<!-- registers: counts -->\n<!-- end -->\n";
+    assert_eq!(fault(twice), "counts begins before crates has ended");
+    assert_eq!(fault("<!-- end -->\n"), "an end marker ends no register");
 }

@@ -1,4 +1,4 @@
-// Text that the programs print.
+// The text of a listing: the sizes and a line for each part, or the number of a refusal.
 pub mod lines;
 pub mod rows;
 

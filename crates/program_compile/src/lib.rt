@@ -1,4 +1,4 @@
-// Compiling: the operation that reads a program file into its location table.
+// The operation that compiles: a program file is read into its location table (1 to 8).
 use base::copy;
 use meaning::Answer;
 use meaning::Form;

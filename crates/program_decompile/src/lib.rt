@@ -1,4 +1,4 @@
-// Decompiling: the operation that gives back the program file that a location table holds.
+// The operation that decompiles: the program file that a location table holds is given back (9, 8).
 pub mod arrays;
 
 use crate::arrays::write_arrays;

@@ -1,4 +1,4 @@
-// The check of a location table: whether bytes are the table of some file.
+// The check of a location table: whether bytes are the table of some file (9).
 pub mod checking;
 
 use crate::checking::parts_end;

@@ -1,4 +1,4 @@
-// Whether a run record is allowed, and whether its run goes on.
+// Whether a run record is allowed (10), whether its run goes on (9, 10, 14), and whether an estimate is allowed (13).
 pub mod marks;
 pub mod values;
 

@@ -1,4 +1,5 @@
-// Beginning a run: a record in which the root, and what begins with it, is marked.
+// The operation that begins a run: its refusals (9, 13, 8), and a record in which the root, and what begins with it, is
+// marked.
 use base::copy_inside;
 use base::fill;
 use meaning::Answer;

@@ -1,4 +1,5 @@
-// Making an offer: the MAINTAINs checked, the goal bytes written, a contested variable named.
+// The operation that makes an offer: its refusals (9, 10, 14, 11, 12, 8), the MAINTAINs checked, the goal bytes written,
+// a contested variable named.
 pub mod checks;
 
 use crate::checks::check_marks;

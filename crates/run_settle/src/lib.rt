@@ -1,4 +1,4 @@
-// Settling: the second half of a cycle.
+// The operation that settles a cycle: its refusals (9, 10, 14, 11, 13, 15), and the record written.
 pub mod works;
 
 use crate::works::works;

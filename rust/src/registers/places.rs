@@ -1,0 +1,157 @@
+//! Tables written by hand in which the column "Where" is filled: the files and lines of what the
+//! other columns name.
+
+use super::declarations::{is_place, named, resolve, Declaration, Kind};
+use super::repository::Repository;
+use super::tables::{cells, quoted, row};
+
+/// The title of the column that is filled.
+const WHERE: &str = "Where";
+
+/// A row of a table, with the titles of its columns.
+struct Row<'a> {
+    titles: &'a [&'a str],
+    cells: Vec<&'a str>,
+}
+
+impl Row<'_> {
+    /// The cell in the column of this title, or nothing.
+    fn cell(&self, title: &str) -> &str {
+        let place = self.titles.iter().position(|other| *other == title);
+        place.map_or("", |place| self.cells[place])
+    }
+}
+
+/// Fills the column in every table of a text. The rest stays.
+fn filled<F>(text: &str, place_of: F) -> Result<String, String>
+where
+    F: Fn(&Row) -> Result<String, String>,
+{
+    let mut made = String::new();
+    let mut faults = Vec::new();
+    let mut titles: Option<Vec<&str>> = None;
+    for line in text.split_inclusive('\n') {
+        let cells = cells(line);
+        let (Some(titles), Some(cells)) = (&titles, &cells) else {
+            titles = cells;
+            made += line;
+            continue;
+        };
+        if line.starts_with("|---") {
+            made += line;
+            continue;
+        }
+        match filled_row(titles, cells.clone(), &place_of) {
+            Ok(row) => made += &row,
+            Err(fault) => faults.push(fault),
+        }
+    }
+    if faults.is_empty() {
+        Ok(made)
+    } else {
+        Err(faults.join("; "))
+    }
+}
+
+fn filled_row<F>(titles: &[&str], cells: Vec<&str>, place_of: F) -> Result<String, String>
+where
+    F: Fn(&Row) -> Result<String, String>,
+{
+    let column = titles.iter().position(|title| *title == WHERE);
+    let column = column.ok_or_else(|| format!("a table has no column {WHERE}: {titles:?}"))?;
+    if cells.len() != titles.len() {
+        return Err(format!("a row has {} cells: {cells:?}", cells.len()));
+    }
+    let place = place_of(&Row {
+        titles,
+        cells: cells.clone(),
+    })?;
+    let mut cells = cells;
+    cells[column] = &place;
+    Ok(row(&cells))
+}
+
+/// Takes up a text that is not there yet.
+fn add(texts: &mut Vec<String>, text: String) {
+    if !texts.contains(&text) {
+        texts.push(text);
+    }
+}
+
+/// File and line of the definition that a row begins with.
+pub fn definitions(repository: &Repository, text: &str) -> Result<String, String> {
+    filled(text, |row| {
+        let name = quoted(row.cell("Definition")).next();
+        let name = name.ok_or_else(|| format!("a row names no definition: {:?}", row.cells))?;
+        let found = resolve(&repository.declarations, &[Kind::Definition], name, &[])?;
+        Ok(format!("`{}:{}`", found.path, found.line))
+    })
+}
+
+/// The files of what a column names. A row that names nothing keeps what it says.
+fn files(
+    repository: &Repository,
+    text: &str,
+    title: &str,
+    kinds: &[Kind],
+) -> Result<String, String> {
+    filled(text, |row| {
+        let mut paths = Vec::new();
+        for declared in named_in(&repository.declarations, kinds, row.cell(title))? {
+            add(&mut paths, format!("`{}`", declared.path));
+        }
+        if paths.is_empty() {
+            return Ok(row.cell(WHERE).to_string());
+        }
+        Ok(paths.join(", "))
+    })
+}
+
+pub fn functions(repository: &Repository, text: &str) -> Result<String, String> {
+    files(repository, text, "Operation", &[Kind::Function])
+}
+
+pub fn theorems(repository: &Repository, text: &str) -> Result<String, String> {
+    files(repository, text, "Theorem", &[Kind::Law])
+}
+
+/// The declarations that a cell names. Crates and files, which it may name too, are none.
+fn named_in<'a>(
+    all: &'a [Declaration],
+    kinds: &[Kind],
+    cell: &str,
+) -> Result<Vec<&'a Declaration>, String> {
+    let words: Vec<&str> = quoted(cell).collect();
+    let is_declared = |word: &&&str| !named(all, kinds, word).is_empty() || !is_place(all, word);
+    words
+        .iter()
+        .filter(is_declared)
+        .map(|word| resolve(all, kinds, word, &words))
+        .collect()
+}
+
+/// The files of a sentence's definitions and laws, crate by crate.
+pub fn sentences(repository: &Repository, text: &str) -> Result<String, String> {
+    let all = &repository.declarations;
+    filled(text, |row| {
+        let mut found = named_in(
+            all,
+            &[Kind::Definition, Kind::Field],
+            row.cell("Definition"),
+        )?;
+        found.extend(named_in(all, &[Kind::Law, Kind::Field], row.cell("Law"))?);
+        let mut crates = Vec::new();
+        for declared in &found {
+            add(&mut crates, declared.crate_name.clone());
+        }
+        let of_crate = |name: &String| {
+            let mut modules = Vec::new();
+            for declared in found.iter().filter(|declared| declared.crate_name == *name) {
+                add(&mut modules, declared.module.clone());
+            }
+            format!("`{name}`: {}", modules.join(", "))
+        };
+        let places: Vec<String> = crates.iter().map(of_crate).collect();
+        Ok(places.join("; "))
+    })
+}
