@@ -62,6 +62,33 @@ fn paths_are_there() {
     assert!(seen > 100, "only {seen} paths are named");
 }
 
+/// Whether a word has the form of a name of the crates: `read_line`, `base::at`, `whole-reached`, `Runs.Demand3`.
+fn is_name(word: &str) -> bool {
+    let parts: Vec<&str> = word.split(['_', '-', ':', '.']).collect();
+    let is_plain = |part: &&str| part.chars().all(char::is_alphanumeric);
+    let has_file = word.contains('.');
+    let is_of_file = word.starts_with(char::is_uppercase) && parts.len() == 2;
+    parts.len() > 1
+        && parts.iter().all(is_plain)
+        && parts[0].starts_with(char::is_alphabetic)
+        && !word.ends_with(".md")
+        && (!has_file || is_of_file)
+}
+
+#[test]
+fn names_are_there() {
+    let repository = Repository::here();
+    let mut seen = 0;
+    for document in repository.documents() {
+        let text = repository.read(&document);
+        for word in quoted(&text).filter(|word| is_name(word)) {
+            assert!(repository.knows(word), "{document} names {word}");
+            seen += 1;
+        }
+    }
+    assert!(seen > 400, "only {seen} names are found");
+}
+
 #[test]
 fn registers_are_up_to_date() {
     let repository = Repository::here();

@@ -19,6 +19,16 @@ pub enum Kind {
     Field,
 }
 
+/// All kinds.
+pub const KINDS: [Kind; 6] = [
+    Kind::Function,
+    Kind::Item,
+    Kind::Definition,
+    Kind::Law,
+    Kind::Private,
+    Kind::Field,
+];
+
 #[derive(Debug)]
 pub struct Declaration {
     pub name: String,
@@ -209,9 +219,11 @@ pub fn resolve<'a>(
     }
 }
 
-/// Whether a word is the name of a crate or of a file in one.
+/// Whether a word is the name of a crate, of a file, or of a file with its crate before it.
 pub fn is_place(all: &[Declaration], word: &str) -> bool {
-    all.iter().any(|declared| declared.stands_in(word))
+    let parts = parts(word);
+    all.iter()
+        .any(|declared| parts.iter().all(|part| declared.stands_in(part)))
 }
 
 /// What a line of a file belongs to.

@@ -3,7 +3,7 @@
 use std::fs;
 use std::path::{Path, PathBuf};
 
-use super::declarations::{self, Declaration};
+use super::declarations::{self, is_place, named, Declaration, KINDS};
 
 /// Folders that the registers read.
 const SOURCES: [&str; 2] = ["crates", "rust/tests"];
@@ -96,6 +96,15 @@ impl Repository {
         self.sources.iter().filter(move |source| {
             source.crate_name() == Some(name) && source.folder() == Some(folder)
         })
+    }
+
+    /// Whether a word is a name: of what the crates declare, of a crate, of a file in one, or of a must-fail edit.
+    pub fn knows(&self, word: &str) -> bool {
+        let is_edit =
+            |source: &Source| source.folder() == Some("must-fail") && source.stem() == word;
+        !named(&self.declarations, &KINDS, word).is_empty()
+            || is_place(&self.declarations, word)
+            || self.sources.iter().any(is_edit)
     }
 
     /// Whether a crate has a function.

@@ -36,12 +36,15 @@ pub fn in_cell(text: &str) -> String {
     text.replace('|', "\\|")
 }
 
-/// A number with a comma before each three digits.
+/// Digits between two commas of a number.
+const GROUP: usize = 3;
+
+/// A number with a comma before each group of digits.
 pub fn grouped(number: usize) -> String {
     let digits = number.to_string();
     let mut text = String::new();
     for (place, digit) in digits.chars().enumerate() {
-        if place > 0 && (digits.len() - place) % 3 == 0 {
+        if place > 0 && (digits.len() - place).is_multiple_of(GROUP) {
             text.push(',');
         }
         text.push(digit);
