@@ -162,7 +162,8 @@ fn lines_have_their_definitions() {
         };
         let source = repository.read(path);
         let found = source.lines().nth(line - 1).unwrap_or("");
-        let declares = found.split_whitespace().any(|word| word == name);
+        let has_name = found.split_whitespace().any(|word| word == name);
+        let declares = has_name && found.contains(" : ");
         assert!(declares, "{path}:{line} does not declare {name}: {found}");
         seen += 1;
     }
@@ -185,6 +186,21 @@ fn lines_are_short() {
             );
         }
     }
+}
+
+/// The sample in the README shows the beginning and the end of the log of its example.
+#[test]
+fn sample_is_of_the_example() {
+    let repository = Repository::here();
+    let text = repository.read("README.md");
+    let log = repository.read("examples/coring.out");
+    let (before, after) = text.split_once("…\n").expect("the sample leaves lines out");
+    let first = before
+        .rfind("begun\n")
+        .expect("the sample has the first answer");
+    let (last, _) = after.split_once("```").expect("the sample ends");
+    assert!(log.starts_with(&before[first..]), "{}", &before[first..]);
+    assert!(log.ends_with(last), "{last}");
 }
 
 /// A wrong line number is noticed, a definition that is not there, and a law that is not there.

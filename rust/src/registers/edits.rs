@@ -21,11 +21,14 @@ fn label(declared: &Declaration) -> String {
     }
 }
 
-/// Where a text stands in a file, as a line's number.
+/// Where a text stands in a file, as a line's number. It must stand there once, or the edit cannot be made.
 fn line_of(file: &Source, text: &str) -> Result<usize, String> {
-    let missing = || format!("{} does not have the text {text}", file.path);
-    let place = file.text.find(text).ok_or_else(missing)?;
-    Ok(file.text[..place].matches('\n').count() + 1)
+    let mut places = file.text.match_indices(text);
+    match (places.next(), places.next()) {
+        (Some((place, _)), None) => Ok(file.text[..place].matches('\n').count() + 1),
+        (None, _) => Err(format!("{} does not have the text {text}", file.path)),
+        (Some(_), Some(_)) => Err(format!("{} has the text {text} twice", file.path)),
+    }
 }
 
 /// What an edit changes. Imports belong to nothing; where code and definitions are changed, the code counts.
