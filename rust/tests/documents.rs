@@ -62,17 +62,23 @@ fn paths_are_there() {
     assert!(seen > 100, "only {seen} paths are named");
 }
 
-/// Whether a word has the form of a name of the crates: `read_line`, `base::at`, `whole-reached`, `Runs.Demand3`.
+/// Whether a word has the form of a name of the crates: `read_line`, `base::at`, `whole-reached`, `Runs.Demand3`,
+/// `treeOf`.
 fn is_name(word: &str) -> bool {
     let parts: Vec<&str> = word.split(['_', '-', ':', '.']).collect();
-    let is_plain = |part: &&str| part.chars().all(char::is_alphanumeric);
-    let has_file = word.contains('.');
-    let is_of_file = word.starts_with(char::is_uppercase) && parts.len() == 2;
-    parts.len() > 1
-        && parts.iter().all(is_plain)
-        && parts[0].starts_with(char::is_alphabetic)
-        && !word.ends_with(".md")
-        && (!has_file || is_of_file)
+    let is_plain = parts
+        .iter()
+        .all(|part| part.chars().all(char::is_alphanumeric));
+    if !is_plain || !word.starts_with(char::is_alphabetic) || word.ends_with(".md") {
+        return false;
+    }
+    let letters: Vec<char> = word.chars().collect();
+    let is_hump = |pair: &[char]| pair[0].is_lowercase() && pair[1].is_uppercase();
+    match parts.len() {
+        1 => letters.windows(2).any(is_hump),
+        2 => !word.contains('.') || word.starts_with(char::is_uppercase),
+        _ => !word.contains('.'),
+    }
 }
 
 #[test]

@@ -97,22 +97,14 @@ fn declare(source: &Source, names: Vec<Found>, found: &mut Vec<Declaration>) {
     }
 }
 
+/// Words before `fn` and the like in a declaration of code.
+const CODE_MODIFIERS: [&str; 4] = ["pub", "crate", "extern", "C"];
+
 /// The functions, constants and types of a file of code.
 fn items(text: &str) -> Vec<Found> {
     let mut found = Vec::new();
     for (place, line) in text.lines().enumerate() {
-        let mut words = line.split(|c: char| !c.is_alphanumeric() && c != '_');
-        let Some(word) = words.find(|word| !["pub", "crate", "extern", "C", ""].contains(word))
-        else {
-            continue;
-        };
-        let kind = match word {
-            _ if line.starts_with([' ', '/']) => continue,
-            "fn" => Kind::Function,
-            "const" | "struct" | "enum" | "type" => Kind::Item,
-            _ => continue,
-        };
-        if let Some(name) = words.next() {
+        if let Some((kind, name)) = item(line) {
             found.push(Found {
                 line: place + 1,
                 name: name.to_string(),
@@ -122,6 +114,22 @@ fn items(text: &str) -> Vec<Found> {
         }
     }
     found
+}
+
+/// What a line of code declares. What is indented stands inside something else.
+fn item(line: &str) -> Option<(Kind, &str)> {
+    if line.starts_with([' ', '/']) {
+        return None;
+    }
+    let mut words = line
+        .split(|c: char| !c.is_alphanumeric() && c != '_')
+        .filter(|word| !word.is_empty() && !CODE_MODIFIERS.contains(word));
+    let kind = match words.next()? {
+        "fn" => Kind::Function,
+        "const" | "struct" | "enum" | "type" => Kind::Item,
+        _ => return None,
+    };
+    Some((kind, words.next()?))
 }
 
 /// Words before the name in a declaration.

@@ -8,6 +8,9 @@ use super::tables::{cells, quoted, row};
 /// The title of the column that is filled.
 const WHERE: &str = "Where";
 
+/// How the line under the titles of a table begins.
+const RULE: &str = "|---";
+
 /// A row of a table, with the titles of its columns.
 struct Row<'a> {
     titles: &'a [&'a str],
@@ -32,18 +35,18 @@ where
     let mut titles: Option<Vec<&str>> = None;
     for line in text.split_inclusive('\n') {
         let cells = cells(line);
-        let (Some(titles), Some(cells)) = (&titles, &cells) else {
-            titles = cells;
-            made += line;
-            continue;
-        };
-        if line.starts_with("|---") {
-            made += line;
-            continue;
-        }
-        match filled_row(titles, cells.clone(), &place_of) {
-            Ok(row) => made += &row,
-            Err(fault) => faults.push(fault),
+        match (&titles, cells) {
+            (Some(titles), Some(cells)) if !line.starts_with(RULE) => {
+                match filled_row(&Row { titles, cells }, &place_of) {
+                    Ok(row) => made += &row,
+                    Err(fault) => faults.push(fault),
+                }
+            }
+            (Some(_), Some(_)) => made += line,
+            (_, cells) => {
+                titles = cells;
+                made += line;
+            }
         }
     }
     if faults.is_empty() {
@@ -53,20 +56,21 @@ where
     }
 }
 
-fn filled_row<F>(titles: &[&str], cells: Vec<&str>, place_of: F) -> Result<String, String>
+/// A row with its column filled.
+fn filled_row<F>(old: &Row, place_of: F) -> Result<String, String>
 where
     F: Fn(&Row) -> Result<String, String>,
 {
-    let column = titles.iter().position(|title| *title == WHERE);
-    let column = column.ok_or_else(|| format!("a table has no column {WHERE}: {titles:?}"))?;
-    if cells.len() != titles.len() {
-        return Err(format!("a row has {} cells: {cells:?}", cells.len()));
+    let column = old.titles.iter().position(|title| *title == WHERE);
+    let column = column.ok_or_else(|| format!("a table has no column {WHERE}"))?;
+    if old.cells.len() != old.titles.len() {
+        return Err(format!(
+            "a row has too many or too few cells: {:?}",
+            old.cells
+        ));
     }
-    let place = place_of(&Row {
-        titles,
-        cells: cells.clone(),
-    })?;
-    let mut cells = cells;
+    let place = place_of(old)?;
+    let mut cells = old.cells.clone();
     cells[column] = &place;
     Ok(row(&cells))
 }
@@ -130,28 +134,34 @@ fn named_in<'a>(
         .collect()
 }
 
-/// The files of a sentence's definitions and laws, crate by crate.
+/// The files of declarations that stand in a crate.
+fn modules_in(found: &[&Declaration], crate_name: &str) -> String {
+    let mut modules = Vec::new();
+    for declared in found {
+        if declared.crate_name == crate_name {
+            add(&mut modules, declared.module.clone());
+        }
+    }
+    format!("`{crate_name}`: {}", modules.join(", "))
+}
+
+/// The files of declarations, crate by crate.
+fn by_crate(found: &[&Declaration]) -> String {
+    let mut places = Vec::new();
+    for declared in found {
+        add(&mut places, modules_in(found, &declared.crate_name));
+    }
+    places.join("; ")
+}
+
+/// The files of each sentence's definitions and laws.
 pub fn sentences(repository: &Repository, text: &str) -> Result<String, String> {
     let all = &repository.declarations;
     filled(text, |row| {
-        let mut found = named_in(
-            all,
-            &[Kind::Definition, Kind::Field],
-            row.cell("Definition"),
-        )?;
-        found.extend(named_in(all, &[Kind::Law, Kind::Field], row.cell("Law"))?);
-        let mut crates = Vec::new();
-        for declared in &found {
-            add(&mut crates, declared.crate_name.clone());
-        }
-        let of_crate = |name: &String| {
-            let mut modules = Vec::new();
-            for declared in found.iter().filter(|declared| declared.crate_name == *name) {
-                add(&mut modules, declared.module.clone());
-            }
-            format!("`{name}`: {}", modules.join(", "))
-        };
-        let places: Vec<String> = crates.iter().map(of_crate).collect();
-        Ok(places.join("; "))
+        let definitions = [Kind::Definition, Kind::Field];
+        let mut found = named_in(all, &definitions, row.cell("Definition"))?;
+        let laws = [Kind::Law, Kind::Field];
+        found.extend(named_in(all, &laws, row.cell("Law"))?);
+        Ok(by_crate(&found))
     })
 }
