@@ -21,6 +21,7 @@ use Rattle.meaning.specs.Table.{tableOf, compiled, isTable}
 use Rattle.meaning.specs.Conditions.{Situation}
 use Rattle.meaning.specs.Record.{waiting, offered, finished, recordBytes, recordLength, rootAllowed, partsAllowed, recordAllowed, clockAllowed}
 use Rattle.meaning.specs.Cycle.{fresh, beginRefusal, begunInto, leavesFrom, goalBytes, rootEnded, worksFrom, estimateAllowed, offerRefusal, checkedMarks, offeredRecord, offeredGoals, offeredInto, goalsInto, settledMarks, settleRefusal, settledRecord, settledInto, clockFlags, clockStarts}
+use Rattle.meaning.specs.Answers.{bufferTooShort, wrongPhase, timeBeforeLast, estimateNotAllowed, runFinished}
 use Rattle.meaning.proofs.Files.{accepted-file}
 use Rattle.meaning.proofs.Tables.{table-holds, table-accepted, tree-table, compiled-is}
 use Rattle.meaning.proofs.Entries.{length-goals}
@@ -163,7 +164,7 @@ module _ (v k : ℕ) (p : Part) (w : Within v k p) where
   offer-waits phase time now room est started starts none h z = absurd (let bad : _≡_ {A = ℕ} 14 0 = rw h at z in omega arith)
   offer-waits phase time now room est started starts (some r) (inr h) z = absurd (let bad : _≡_ {A = ℕ} 11 0 = rw h at z in omega arith)
   offer-waits phase time now room est started starts (some r) (inl h) z =
-      let tests = none-fails ((14, not (eqb phase finished)) ∷ (11, not (eqb phase offered)) ∷ (12, leb time now) ∷ (8, leb v room) ∷ []) refl z in
+      let tests = none-fails ((runFinished, not (eqb phase finished)) ∷ (wrongPhase, not (eqb phase offered)) ∷ (timeBeforeLast, leb time now) ∷ (bufferTooShort, leb v room) ∷ []) refl z in
       record { remaining = r; is = refl; later = leb-true time now (tests .1 .1 .0); room-enough = leb-true v room (tests .1 .1 .1 .0) }
 
   -- what a settling that is not refused has found
@@ -177,7 +178,7 @@ module _ (v k : ℕ) (p : Part) (w : Within v k p) where
       → refusalOf p v (stateOf phase time est started starts rest) (settled new) ≡ 0 → Offered new rest
   settle-waits phase time est started starts new none h z = absurd (let bad : _≡_ {A = ℕ} 14 0 = rw h at z in omega arith)
   settle-waits phase time est started starts new (some r) h z =
-      let tests = none-fails ((14, not (eqb phase finished)) ∷ (11, not (eqb phase waiting)) ∷ (13, estimateFits v new) ∷ []) refl z in
+      let tests = none-fails ((runFinished, not (eqb phase finished)) ∷ (wrongPhase, not (eqb phase waiting)) ∷ (estimateNotAllowed, estimateFits v new) ∷ []) refl z in
       let allowed = tests .1 .1 .0 in
       record { remaining = r; is = refl; long = eqb-true (length new) v (and-left (eqb (length new) v) (all (λ x. leb x maxValue) new) allowed); small = and-right (eqb (length new) v) (all (λ x. leb x maxValue) new) allowed }
 
@@ -347,9 +348,9 @@ module _ (v k : ℕ) (p : Part) (w : Within v k p) where
   -- what a refusal's number can be
   refusal-possible : (st : State p) (c : Fed) → possible (refused (refusalOf p v st c)) ≡ true
   refusal-possible st (offering now room) =
-      failing-passes (λ n. possible (refused n)) ((14, not (eqb (st .phase) finished)) ∷ (11, not (eqb (st .phase) offered)) ∷ (12, leb (st .time) now) ∷ (8, leb v room) ∷ []) refl refl
+      failing-passes (λ n. possible (refused n)) ((runFinished, not (eqb (st .phase) finished)) ∷ (wrongPhase, not (eqb (st .phase) offered)) ∷ (timeBeforeLast, leb (st .time) now) ∷ (bufferTooShort, leb v room) ∷ []) refl refl
   refusal-possible st (settled new) =
-      failing-passes (λ n. possible (refused n)) ((14, not (eqb (st .phase) finished)) ∷ (11, not (eqb (st .phase) waiting)) ∷ (13, estimateFits v new) ∷ []) refl refl
+      failing-passes (λ n. possible (refused n)) ((runFinished, not (eqb (st .phase) finished)) ∷ (wrongPhase, not (eqb (st .phase) waiting)) ∷ (estimateNotAllowed, estimateFits v new) ∷ []) refl refl
 
   given-possible : (st : State p) (c : Fed) → possible (acceptedReply p v k st c) ≡ true
   given-possible st (offering now room) = refl
@@ -412,7 +413,7 @@ module _ (v k : ℕ) (p : Part) (w : Within v k p) where
   begun-held est r h = begun-bytes t est r h length-begun ∙ rw (fresh-lies t p lies, clocks-are)
 
   -- a beginning is refused by 13 or 8
-  begin-refusal : (est : List ℕ) (room : ℕ) → beginRefusal t est room ≡ firstFailing ((13, estimateFits v est) ∷ (8, leb recordLength room) ∷ [])
+  begin-refusal : (est : List ℕ) (room : ℕ) → beginRefusal t est room ≡ firstFailing ((estimateNotAllowed, estimateFits v est) ∷ (bufferTooShort, leb recordLength room) ∷ [])
   unfolding beginRefusal estimateAllowed
   begin-refusal est room = rw (table, variables-are)
 

@@ -18,8 +18,8 @@ use Rattle.meaning.specs.Tree.{Part}
 use Rattle.meaning.specs.Program.{parts, variables, clocks, programRefusal}
 use Rattle.meaning.specs.Table.{tableOf, compiled, readRefusal, readInto}
 use Rattle.meaning.specs.Record.{phaseOf, lastTime, estimateIn, startedIn, startsIn, waiting, finished}
-use Rattle.meaning.specs.Cycle.{noGoal, contested, Names, rootEnded, settledMarks, beginRefusal, begunInto, offerRefusal, offeredGoals, offeredInto, goalsInto, settleRefusal, settledInto}
-use Rattle.meaning.specs.Answers.{answered}
+use Rattle.meaning.specs.Cycle.{contested, Names, rootEnded, settledMarks, beginRefusal, begunInto, offerRefusal, offeredGoals, offeredInto, goalsInto, settleRefusal, settledInto}
+use Rattle.meaning.specs.Answers.{answered, bufferTooShort, noVariable}
 use Rattle.meaning.specs.Operations.{Begun}
 use Rattle.meaning.proofs.Files.{accepted}
 use Rattle.meaning.proofs.Tables.{table-holds, table-accepted, compiled-is}
@@ -149,8 +149,8 @@ module _ (f : List ℕ) where
   pub read-accepted : (room : ℕ) → readRefusal f room ≡ 0 → (programRefusal File f ≡ 0) × (lengthOf Table (parts f) ≤ room)
   unfolding readRefusal
   read-accepted room h =
-      let x = both-none (firstFailing ((8, leb (lengthOf Table (parts f)) room) ∷ [])) (programRefusal File f) h in
-      (x .0, leb-true (lengthOf Table (parts f)) room (none-fails ((8, leb (lengthOf Table (parts f)) room) ∷ []) refl (x .1) .0))
+      let x = both-none (firstFailing ((bufferTooShort, leb (lengthOf Table (parts f)) room) ∷ [])) (programRefusal File f) h in
+      (x .0, leb-true (lengthOf Table (parts f)) room (none-fails ((bufferTooShort, leb (lengthOf Table (parts f)) room) ∷ []) refl (x .1) .0))
 
   module _ (a : programRefusal File f ≡ 0) where
     abbrev tree : Part
@@ -207,7 +207,7 @@ operations-agree f out answer out' read z est r answer' r' b =
 
 -- A name that an offer may give is there for all goal bytes: the lowest contested variable, or 255
 some-name : (gs : List ℕ) → (n : ℕ) × Names gs n
-some-name [] = (noGoal, inr (refl, λ v l. absurd (omega arith)))
+some-name [] = (noVariable, inr (refl, λ v l. absurd (omega arith)))
 some-name (g ∷ gs) = go (eqb g contested) refl (some-name gs)
   where
     none-of : (g ≡ contested → ⊥) → ((v : ℕ) → v < length gs → getD gs v 0 ≡ contested → ⊥) → (v : ℕ) → v < length (g ∷ gs) → getD (g ∷ gs) v 0 ≡ contested → ⊥
@@ -217,7 +217,7 @@ some-name (g ∷ gs) = go (eqb g contested) refl (some-name gs)
     go : (b : Bool) → eqb g contested ≡ b → (n : ℕ) × Names gs n → (n : ℕ) × Names (g ∷ gs) n
     go true e later = (0, inl (omega arith, eqb-true g contested e))
     go false e (n, inl (l, c)) = (suc n, inl (omega arith, c))
-    go false e (n, inr (a, none)) = (noGoal, inr (refl, none-of (eqb-false g contested e) none))
+    go false e (n, inr (a, none)) = (noVariable, inr (refl, none-of (eqb-false g contested e) none))
 
 -- an offer that keeps its promise, and then any call that does
 module _ (t r : List ℕ) (time : ℕ) (buffer : List ℕ) where

@@ -13,7 +13,7 @@ use Rattle.meaning.specs.Sizes.{lengthOf}
 use Rattle.meaning.specs.Tree.{Part}
 use Rattle.meaning.specs.Program.{parts, variables, clocks, treeOf}
 use Rattle.meaning.specs.Record.{phaseOf, lastTime, estimateIn, startedIn, startsIn, recordLength, finished}
-use Rattle.meaning.specs.Answers.{answered}
+use Rattle.meaning.specs.Answers.{answered, bufferTooShort, estimateNotAllowed}
 use Rattle.meaning.specs.Operations.{Read, Begun, Offered, Settled}
 use Rattle.agreement.specs.Runs.{Call, offer, settling, Reply, refused, goals, running, done, State, begin, fed, workingOf, offeredState, treeNext, treeReplies, treeAfter, treeFinishing, counted, possible, estimateFits, NamesContested, Timed}
 
@@ -86,7 +86,7 @@ pub record CallsAlike (t r : List ℕ) (p : Part) (v k : ℕ) (st : State p) (ms
 pub record OperationsAlike (f t est r : List ℕ) (answer : ℕ) (r' : List ℕ) : Type 0 where
   pub program : Part
   pub read : treeOf File f ≡ some program
-  pub beginning : answer ≡ firstFailing ((13, estimateFits (variables f) est) ∷ (8, leb recordLength (length r)) ∷ [])
+  pub beginning : answer ≡ firstFailing ((estimateNotAllowed, estimateFits (variables f) est) ∷ (bufferTooShort, leb recordLength (length r)) ∷ [])
   pub unbegun : (answer ≡ 0 → ⊥) → r' ≡ r
   pub begun : answer ≡ 0 → (ms : List Made) → AllPromised t r' ms → Timed (map callOf ms) → CallsAlike t r' program (variables f) (clocks f) (begin program (clocks f) est) ms
 

@@ -16,7 +16,8 @@ use Rattle.meaning.specs.Program.{variables, clocks, treeOf, programRefusal}
 use Rattle.meaning.specs.Table.{compiled}
 use Rattle.meaning.specs.Conditions.{Situation}
 use Rattle.meaning.specs.Record.{phaseOf, lastTime, estimateIn, startedIn, startsIn, recordLength, waiting, offered, finished}
-use Rattle.meaning.specs.Cycle.{beginRefusal, begunInto, noGoal, Names, valuesFor, goalBytes, clockFlags, clockStarts, offerRefusal, offeredInto, goalsInto, settleRefusal, settledInto}
+use Rattle.meaning.specs.Cycle.{beginRefusal, begunInto, Names, valuesFor, goalBytes, clockFlags, clockStarts, offerRefusal, offeredInto, goalsInto, settleRefusal, settledInto}
+use Rattle.meaning.specs.Answers.{bufferTooShort, notATable, recordNotAllowed, wrongPhase, timeBeforeLast, estimateNotAllowed, runFinished, nothingAtWork, noVariable}
 use Rattle.agreement.specs.Unfolding.{Rest, afresh, check, working, settle}
 
 -- A call: an offer's time and goal buffer, or a settling's estimate
@@ -55,7 +56,7 @@ Contested es v = Differ (valuesFor v es)
 
 -- a name that an offer may give: a contested variable, or 255 exactly where none is contested
 abbrev pub NamesContested : ℕ → List Entry → ℕ → Type 0
-NamesContested n es name = ((name < n) × Contested es name) ⊎ ((name ≡ noGoal) × ((v : ℕ) → v < n → Contested es v → ⊥))
+NamesContested n es name = ((name < n) × Contested es name) ⊎ ((name ≡ noVariable) × ((v : ℕ) → v < n → Contested es v → ⊥))
 
 -- The run by unfolding. "Its state is the phase, last time, estimate and clocks, and what remains of the tree", of which nothing does once it has ended
 pub record State (p : Part) : Type 0 where
@@ -95,8 +96,8 @@ module _ (p : Part) where
 
   -- "refusals 8 and 11 to 14 are as above", in the order of the operations
   abbrev pub refusalOf : ℕ → State p → Fed → ℕ
-  refusalOf v st (offering time room) = firstFailing ((14, not (eqb (st .phase) finished)) ∷ (11, not (eqb (st .phase) offered)) ∷ (12, leb (st .time) time) ∷ (8, leb v room) ∷ [])
-  refusalOf v st (settled est) = firstFailing ((14, not (eqb (st .phase) finished)) ∷ (11, not (eqb (st .phase) waiting)) ∷ (13, estimateFits v est) ∷ [])
+  refusalOf v st (offering time room) = firstFailing ((runFinished, not (eqb (st .phase) finished)) ∷ (wrongPhase, not (eqb (st .phase) offered)) ∷ (timeBeforeLast, leb (st .time) time) ∷ (bufferTooShort, leb v room) ∷ [])
+  refusalOf v st (settled est) = firstFailing ((runFinished, not (eqb (st .phase) finished)) ∷ (wrongPhase, not (eqb (st .phase) waiting)) ∷ (estimateNotAllowed, estimateFits v est) ∷ [])
 
   -- what conditions are judged by
   abbrev pub situationOf : State p → List ℕ → ℕ → Situation
@@ -190,7 +191,7 @@ NamesAlike t r p v k st (c ∷ cs) = NameAlike t r p st c × NamesAlike t (table
 
 -- the replies of a run never refuse with 9, 10 or 15
 abbrev pub possible : Reply → Bool
-possible (refused n) = not (eqb n 9 || (eqb n 10 || eqb n 15))
+possible (refused n) = not (eqb n notATable || (eqb n recordNotAllowed || eqb n nothingAtWork))
 possible (goals g) = true
 possible running = true
 possible done = true
@@ -218,7 +219,7 @@ Timed (settling est ∷ cs) = Timed cs
 pub record RunsAlike (f est r : List ℕ) (cs : List Call) : Type 0 where
   pub program : Part
   pub read : treeOf File f ≡ some program
-  pub beginning : beginRefusal (compiled File f) est (length r) ≡ firstFailing ((13, estimateFits (variables f) est) ∷ (8, leb recordLength (length r)) ∷ [])
+  pub beginning : beginRefusal (compiled File f) est (length r) ≡ firstFailing ((estimateNotAllowed, estimateFits (variables f) est) ∷ (bufferTooShort, leb recordLength (length r)) ∷ [])
   pub unbegun : (beginRefusal (compiled File f) est (length r) ≡ 0 → ⊥) → begunInto (compiled File f) est r ≡ r
   pub begun : beginRefusal (compiled File f) est (length r) ≡ 0 → Alike (compiled File f) (begunInto (compiled File f) est r) program (variables f) (clocks f) (begin program (clocks f) est) cs
 

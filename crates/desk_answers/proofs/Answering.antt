@@ -12,8 +12,7 @@ use Rattle.meaning.specs.declared.OfferAnswer.{OfferAnswer}
 use Rattle.meaning.specs.declared.OfferAnswer.the-variants.{Agreed, Contested, Refused as OfferRefused}
 use Rattle.meaning.specs.declared.SettleAnswer.{SettleAnswer}
 use Rattle.meaning.specs.declared.SettleAnswer.the-variants.{Running, Finished, Refused as SettleRefused}
-use Rattle.meaning.specs.Answers.{refusalNumber, answerNumber, offerNumber, settleNumber, answered}
-use Rattle.meaning.specs.Cycle.{noGoal}
+use Rattle.meaning.specs.Answers.{refusalNumber, answerNumber, offerNumber, settleNumber, answered, noVariable}
 use Rattle.meaning.proofs.Answers.{refusal-counts}
 use Rattle.desk_format.specs.Decimal.{decimal}
 use Rattle.desk_format.specs.Hexadecimal.{pairs}
@@ -48,7 +47,7 @@ pub offered-refused : {a : OfferAnswer} {r : Refusal} (goals : List ℕ) → a �
 unfolding offeredText
 offered-refused {r = r} goals told = rw (told, lt-ltb (refusalNumber r) answered (refusal-counts r .1))
 
-pub offered-agreed : {a : OfferAnswer} (goals : List ℕ) → a ≡ Agreed → offeredText (offerNumber a) goals ≡ goalsText goals noGoal
+pub offered-agreed : {a : OfferAnswer} (goals : List ℕ) → a ≡ Agreed → offeredText (offerNumber a) goals ≡ goalsText goals noVariable
 unfolding offeredText
 offered-agreed goals told = rw told
 
@@ -56,13 +55,13 @@ pub offered-contested : {a : OfferAnswer} {v : ℕ} (goals : List ℕ) → a ≡
 unfolding offeredText
 offered-contested {v = v} goals told = rw (told, le-ltb (answered + v) answered (omega arith), add-sub-cancel-left)
 
-pub named-none : {v : ℕ} → v ≡ noGoal → namedText v ≡ word " named none\n"
+pub named-none : {v : ℕ} → v ≡ noVariable → namedText v ≡ word " named none\n"
 unfolding namedText
-named-none {v} e = rw (eq-eqb v noGoal e)
+named-none {v} e = rw (eq-eqb v noVariable e)
 
-pub named-one : {v : ℕ} → (v ≡ noGoal → ⊥) → namedText v ≡ numbered (word " named ") v
+pub named-one : {v : ℕ} → (v ≡ noVariable → ⊥) → namedText v ≡ numbered (word " named ") v
 unfolding namedText
-named-one {v} e = rw (ne-eqb v noGoal e)
+named-one {v} e = rw (ne-eqb v noVariable e)
 
 -- The pieces of the lines that have several
 pub goals-pieces : (goals : List ℕ) (v : ℕ) → Three (goalsText goals v) (word "goals") (pairs goals) (namedText v)

@@ -5,8 +5,7 @@ use mathlib.Core.Bool.{Bool, true, false, cond}
 use mathlib.Core.List.{List}
 use lib.Dec.{eqb, ltb}
 use lib.ListN.{length}
-use Rattle.meaning.specs.Answers.{answered}
-use Rattle.meaning.specs.Cycle.{noGoal}
+use Rattle.meaning.specs.Answers.{answered, noVariable}
 use Rattle.desk_format.specs.Decimal.{maxDigits}
 use Rattle.desk_format.specs.Words.{word, numbered}
 use Rattle.desk_format.proofs.Texts.{three-length}
@@ -40,7 +39,7 @@ settled-short n =
 -- The line with the goals
 named-fits : (v : ℕ) → length (namedText v) ≤ 7 + maxDigits + 1
 unfolding namedText
-named-fits v = either-fits (eqb v noGoal) (word " named none\n") (numbered (word " named ") v) (7 + maxDigits + 1) (omega arith) (numbered-fits (word " named ") v)
+named-fits v = either-fits (eqb v noVariable) (word " named none\n") (numbered (word " named ") v) (7 + maxDigits + 1) (omega arith) (numbered-fits (word " named ") v)
 
 goals-fits : (goals : List ℕ) (v : ℕ) → length (goalsText goals v) ≤ 5 + 3 * length goals + (7 + maxDigits + 1)
 goals-fits goals v = omega (arith, three-length (goals-pieces goals v), length-pairs goals, named-fits v)

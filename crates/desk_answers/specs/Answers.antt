@@ -3,8 +3,7 @@ use Prim.Native.Nat.{ℕ, _-_}
 use mathlib.Core.Bool.{cond}
 use mathlib.Core.List.{List, _++_}
 use lib.Dec.{eqb, ltb}
-use Rattle.meaning.specs.Cycle.{noGoal}
-use Rattle.meaning.specs.Answers.{answered}
+use Rattle.meaning.specs.Answers.{answered, noVariable}
 use Rattle.desk_format.specs.Decimal.{decimal}
 use Rattle.desk_format.specs.Hexadecimal.{pairs}
 use Rattle.desk_format.specs.Words.{word, numbered}
@@ -23,7 +22,7 @@ settledText n = cond (ltb n answered) (refusedText n) (cond (eqb n answered) (wo
 
 -- an offer's answer with the V goal bytes: "goals HEX named V", or "named none"
 unfoldable pub namedText : ℕ → List ℕ
-namedText v = cond (eqb v noGoal) (word " named none\n") (numbered (word " named ") v)
+namedText v = cond (eqb v noVariable) (word " named none\n") (numbered (word " named ") v)
 
 unfoldable pub goalsText : List ℕ → ℕ → List ℕ
 goalsText goals v = word "goals" ++ (pairs goals ++ namedText v)

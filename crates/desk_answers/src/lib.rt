@@ -9,7 +9,7 @@ use meaning::OfferAnswer;
 use meaning::Refusal;
 use meaning::SettleAnswer;
 use meaning::refusal_number;
-use meaning::sizes::NO_GOAL;
+use meaning::sizes::NO_VARIABLE;
 ghost use Prim.Native.Nat.{_+_, _<_, _^_};
 ghost use lib.ListN.{length};
 ghost use Rattle.base.specs.Lists.{bytesAt};
@@ -53,7 +53,7 @@ fn write_named(v: u8, out: &mut [u8], i: usize) -> usize
     requires { ⌜ i + length (namedText v) < 2 ^ 64 ⌝ }
     ensures { λ e. ⌜ Written (namedText v) (now (out .entry)) i (now (out .exit)) e ⌝ }
 {
-    if v == NO_GOAL {
+    if v == NO_VARIABLE {
         write_word(b" named none\n", out, i)
     } else {
         write_numbered(b" named ", v as u64, out, i)
@@ -77,7 +77,7 @@ pub fn write_offered(a: OfferAnswer, goals: &[u8], v: u8, out: &mut [u8], i: usi
 {
     match a {
         OfferAnswer::Refused(r) => write_refused(r, out, i),
-        OfferAnswer::Agreed => write_goals(goals, v, NO_GOAL, out, i),
+        OfferAnswer::Agreed => write_goals(goals, v, NO_VARIABLE, out, i),
         OfferAnswer::Contested(named) => write_goals(goals, v, named, out, i),
     }
 }

@@ -21,6 +21,7 @@ use Rattle.meaning.specs.declared.Fate.{Fate}
 use Rattle.meaning.specs.declared.Fate.the-variants.{Stays, Ends, First, Second}
 use Rattle.meaning.specs.Cycle.{applied, begins, freshFrom, fresh, breaks, checkedFrom, checkedMarks, offeredRecord, leavesFrom, settledFrom, settledMarks, rootEnded, startsClock, clockFlags, clockStarts, settledRecord, estimateAllowed, freshRecord, beginRefusal, begunInto}
 use Rattle.meaning.specs.Record.{timePlace, estimatePlace, startedPlace, startsPlace, marksPlace, recordLength, timeAt, phaseOf, lastTime, estimateIn, startedIn, startsIn, marksIn, recordBytes, isMark, isZero, restZero, valuesAllowed, clockAllowed, clocksAllowed, rootAllowed, partsAllowed, recordAllowed, waiting, offered, finished}
+use Rattle.meaning.specs.Answers.{bufferTooShort, notATable, estimateNotAllowed}
 use Rattle.meaning.proofs.Tables.{table-held, root-there, root-end}
 
 -- Numbers: a number is read back from as many bytes as hold it
@@ -395,9 +396,9 @@ estimate-fits t est h =
 
 -- Beginning a run
 module _ (t est : List ℕ) (room : ℕ) (h : beginRefusal t est room ≡ 0) where
-  pub begin-tests : Passed ((9, isTable t) ∷ (13, estimateAllowed t est) ∷ (8, leb recordLength room) ∷ [])
+  pub begin-tests : Passed ((notATable, isTable t) ∷ (estimateNotAllowed, estimateAllowed t est) ∷ (bufferTooShort, leb recordLength room) ∷ [])
   unfolding beginRefusal
-  begin-tests = none-fails ((9, isTable t) ∷ (13, estimateAllowed t est) ∷ (8, leb recordLength room) ∷ []) refl h
+  begin-tests = none-fails ((notATable, isTable t) ∷ (estimateNotAllowed, estimateAllowed t est) ∷ (bufferTooShort, leb recordLength room) ∷ []) refl h
 
   -- what a record holds at the beginning
   pub begun-fits : length (fresh t 0) ≡ parts t → Fits t 0 est (replicate (clocks t) 0) (replicate (clocks t) 0) (fresh t 0)

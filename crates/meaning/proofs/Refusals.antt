@@ -17,6 +17,7 @@ use Rattle.meaning.specs.Program.{variables, clocks}
 use Rattle.meaning.specs.Table.{isTable}
 use Rattle.meaning.specs.Record.{estimatePlace, startedPlace, startsPlace, marksPlace, phaseOf, lastTime, startedIn, startsIn, recordAllowed, offered, waiting, finished}
 use Rattle.meaning.specs.Cycle.{beginRefusal, begunInto, checkedMarks, leavesFrom, offerRefusal, offeredGoals, offeredInto, goalsInto, settledMarks, settledRecord, settleRefusal, settledInto, estimateAllowed, rootEnded, worksFrom, startingLeaves, clockFlags, clockStarts}
+use Rattle.meaning.specs.Answers.{bufferTooShort, notATable, recordNotAllowed, wrongPhase, timeBeforeLast, estimateNotAllowed, runFinished, nothingAtWork}
 use Rattle.meaning.proofs.Entries.{length-goals}
 use Rattle.meaning.proofs.Records.{allowed-long}
 
@@ -27,22 +28,22 @@ effect n m new out out₁ e h = (e, h ∙ ap (λ (k : ℕ). cond (eqb k 0) new o
 -- the tests of an offer and of a settling
 abbrev pub offer-list : List ℕ → List ℕ → ℕ → ℕ → List (ℕ × Bool)
 offer-list t r time room =
-    (9, isTable t)
-    ∷ (10, recordAllowed t r)
-    ∷ (14, not (eqb (phaseOf r) finished))
-    ∷ (11, not (eqb (phaseOf r) offered))
-    ∷ (12, leb (lastTime r) time)
-    ∷ (8, leb (variables t) room)
+    (notATable, isTable t)
+    ∷ (recordNotAllowed, recordAllowed t r)
+    ∷ (runFinished, not (eqb (phaseOf r) finished))
+    ∷ (wrongPhase, not (eqb (phaseOf r) offered))
+    ∷ (timeBeforeLast, leb (lastTime r) time)
+    ∷ (bufferTooShort, leb (variables t) room)
     ∷ []
 
 abbrev pub settle-list : List ℕ → List ℕ → List ℕ → List (ℕ × Bool)
 settle-list t r est =
-    (9, isTable t)
-    ∷ (10, recordAllowed t r)
-    ∷ (14, not (eqb (phaseOf r) finished))
-    ∷ (11, not (eqb (phaseOf r) waiting))
-    ∷ (13, estimateAllowed t est)
-    ∷ (15, rootEnded (settledMarks t r est) || worksFrom t 0 (settledMarks t r est))
+    (notATable, isTable t)
+    ∷ (recordNotAllowed, recordAllowed t r)
+    ∷ (runFinished, not (eqb (phaseOf r) finished))
+    ∷ (wrongPhase, not (eqb (phaseOf r) waiting))
+    ∷ (estimateNotAllowed, estimateAllowed t est)
+    ∷ (nothingAtWork, rootEnded (settledMarks t r est) || worksFrom t 0 (settledMarks t r est))
     ∷ []
 
 module _ (t r : List ℕ) (time room : ℕ) (h : offerRefusal t r time room ≡ 0) where

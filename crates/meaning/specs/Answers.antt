@@ -8,24 +8,84 @@ use Rattle.meaning.specs.declared.OfferAnswer.{OfferAnswer}
 use Rattle.meaning.specs.declared.OfferAnswer.the-variants.{Agreed, Contested, Refused as OfferRefused}
 use Rattle.meaning.specs.declared.SettleAnswer.{SettleAnswer}
 use Rattle.meaning.specs.declared.SettleAnswer.the-variants.{Running, Finished, Refused as SettleRefused}
-use Rattle.meaning.specs.Cycle.{noGoal}
+
+-- "Refusal by refusal": each has here the name that the code's `Refusal` and the header give it
+-- "file under 3 bytes"
+abbrev pub fileTooShort : ℕ
+fileTooShort = 1
+
+-- "a size outside its range"
+abbrev pub sizeOutOfRange : ℕ
+sizeOutOfRange = 2
+
+-- "length not 3 + 5 × N"
+abbrev pub wrongLength : ℕ
+wrongLength = 3
+
+-- "unknown kind"
+abbrev pub unknownKind : ℕ
+unknownKind = 4
+
+-- "operand not allowed"
+abbrev pub operandNotAllowed : ℕ
+operandNotAllowed = 5
+
+-- "arrays do not form exactly one tree"
+abbrev pub notOneTree : ℕ
+notOneTree = 6
+
+-- "depth above 16"
+abbrev pub tooDeep : ℕ
+tooDeep = 7
+
+-- "output buffer too short"
+abbrev pub bufferTooShort : ℕ
+bufferTooShort = 8
+
+-- "bytes not the table of any file"
+abbrev pub notATable : ℕ
+notATable = 9
+
+-- "record not allowed, or under 317 bytes"
+abbrev pub recordNotAllowed : ℕ
+recordNotAllowed = 10
+
+-- "settling in phase 0, offer in phase 1"
+abbrev pub wrongPhase : ℕ
+wrongPhase = 11
+
+-- "time before the last time"
+abbrev pub timeBeforeLast : ℕ
+timeBeforeLast = 12
+
+-- "estimate not V bytes, or one above 250"
+abbrev pub estimateNotAllowed : ℕ
+estimateNotAllowed = 13
+
+-- "run finished"
+abbrev pub runFinished : ℕ
+runFinished = 14
+
+-- "after settling, root not ended, yet no leaf or deciding CHOICE marked"
+abbrev pub nothingAtWork : ℕ
+nothingAtWork = 15
 
 abbrev pub refusalNumber : Refusal → ℕ
-refusalNumber FileTooShort = 1
-refusalNumber SizeOutOfRange = 2
-refusalNumber WrongLength = 3
-refusalNumber UnknownKind = 4
-refusalNumber OperandNotAllowed = 5
-refusalNumber NotOneTree = 6
-refusalNumber TooDeep = 7
-refusalNumber BufferTooShort = 8
-refusalNumber NotATable = 9
-refusalNumber RecordNotAllowed = 10
-refusalNumber WrongPhase = 11
-refusalNumber TimeBeforeLast = 12
-refusalNumber EstimateNotAllowed = 13
-refusalNumber RunFinished = 14
-refusalNumber NothingAtWork = 15
+refusalNumber FileTooShort = fileTooShort
+refusalNumber SizeOutOfRange = sizeOutOfRange
+refusalNumber WrongLength = wrongLength
+refusalNumber UnknownKind = unknownKind
+refusalNumber OperandNotAllowed = operandNotAllowed
+refusalNumber NotOneTree = notOneTree
+refusalNumber TooDeep = tooDeep
+refusalNumber BufferTooShort = bufferTooShort
+refusalNumber NotATable = notATable
+refusalNumber RecordNotAllowed = recordNotAllowed
+refusalNumber WrongPhase = wrongPhase
+refusalNumber TimeBeforeLast = timeBeforeLast
+refusalNumber EstimateNotAllowed = estimateNotAllowed
+refusalNumber RunFinished = runFinished
+refusalNumber NothingAtWork = nothingAtWork
 
 abbrev pub answerNumber : Answer → ℕ
 answerNumber Done = 0
@@ -36,9 +96,13 @@ answerNumber (Refused r) = refusalNumber r
 abbrev pub answered : ℕ
 answered = 256
 
+-- "or 255 exactly where none is contested": the name in an offer's answer that names no variable
+abbrev pub noVariable : ℕ
+noVariable = 255
+
 abbrev pub offerNumber : OfferAnswer → ℕ
 offerNumber (OfferRefused r) = refusalNumber r
-offerNumber Agreed = answered + noGoal
+offerNumber Agreed = answered + noVariable
 offerNumber (Contested v) = answered + v
 
 abbrev pub settleNumber : SettleAnswer → ℕ

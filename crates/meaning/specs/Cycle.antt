@@ -19,6 +19,7 @@ use Rattle.meaning.specs.Program.{variables, clocks, entryAt}
 use Rattle.meaning.specs.Table.{kindAt, operandOf, endAt, parentAt, nextAt, insideOf, isTable}
 use Rattle.meaning.specs.Conditions.{Situation, reached, satisfied, violated}
 use Rattle.meaning.specs.Record.{timePlace, estimatePlace, startedPlace, startsPlace, marksPlace, recordLength, phaseOf, lastTime, estimateIn, startedIn, startsIn, marksIn, waiting, offered, finished, isMark, recordBytes, recordAllowed}
+use Rattle.meaning.specs.Answers.{bufferTooShort, notATable, recordNotAllowed, wrongPhase, timeBeforeLast, estimateNotAllowed, runFinished, nothingAtWork, noVariable}
 
 -- "To initialise is to mark the part and initialise SEQ's first child, all of PAR's, MAINTAIN's and REPEAT's child, and none of CHOICE's":
 -- whether part p, inside part q of a kind, is initialised with it
@@ -87,7 +88,7 @@ goalBytes n es = tabulate (λ v. goalByte (valuesFor v es)) 0 n
 
 -- "one contested variable, any of them, or 255 exactly where none is contested"
 abbrev pub Names : List ℕ → ℕ → Type 0
-Names goals n = ((n < length goals) × (getD goals n 0 ≡ contested)) ⊎ ((n ≡ noGoal) × ((v : ℕ) → v < length goals → getD goals v 0 ≡ contested → ⊥))
+Names goals n = ((n < length goals) × (getD goals n 0 ≡ contested)) ⊎ ((n ≡ noVariable) × ((v : ℕ) → v < length goals → getD goals v 0 ≡ contested → ⊥))
 
 -- Settling. What becomes of a marked part (`Fate`)
 abbrev pub endsIf : Bool → Fate
@@ -155,7 +156,7 @@ freshRecord t est = recordBytes waiting 0 est (replicate (clocks t) 0) (replicat
 
 -- "Beginning 9, 13, 8"
 unfoldable pub beginRefusal : List ℕ → List ℕ → ℕ → ℕ
-beginRefusal t est room = firstFailing ((9, isTable t) ∷ (13, estimateAllowed t est) ∷ (8, leb recordLength room) ∷ [])
+beginRefusal t est room = firstFailing ((notATable, isTable t) ∷ (estimateNotAllowed, estimateAllowed t est) ∷ (bufferTooShort, leb recordLength room) ∷ [])
 
 unfoldable pub begunInto : List ℕ → List ℕ → List ℕ → List ℕ
 begunInto t est r = cond (eqb (beginRefusal t est (length r)) 0) (sets r 0 (freshRecord t est)) r
@@ -164,12 +165,12 @@ begunInto t est r = cond (eqb (beginRefusal t est (length r)) 0) (sets r 0 (fres
 unfoldable pub offerRefusal : List ℕ → List ℕ → ℕ → ℕ → ℕ
 offerRefusal t r time room =
     firstFailing
-    ((9, isTable t)
-    ∷ (10, recordAllowed t r)
-    ∷ (14, not (eqb (phaseOf r) finished))
-    ∷ (11, not (eqb (phaseOf r) offered))
-    ∷ (12, leb (lastTime r) time)
-    ∷ (8, leb (variables t) room)
+    ((notATable, isTable t)
+    ∷ (recordNotAllowed, recordAllowed t r)
+    ∷ (runFinished, not (eqb (phaseOf r) finished))
+    ∷ (wrongPhase, not (eqb (phaseOf r) offered))
+    ∷ (timeBeforeLast, leb (lastTime r) time)
+    ∷ (bufferTooShort, leb (variables t) room)
     ∷ [])
 
 -- the marks after an offer, what it offers, and what stands in record and goal buffer afterwards
@@ -205,12 +206,12 @@ worksFrom t p (m ∷ ms) = (isMark m && (isLeaf (entryAt Table t p) || (isKind C
 unfoldable pub settleRefusal : List ℕ → List ℕ → List ℕ → ℕ
 settleRefusal t r est =
     firstFailing
-    ((9, isTable t)
-    ∷ (10, recordAllowed t r)
-    ∷ (14, not (eqb (phaseOf r) finished))
-    ∷ (11, not (eqb (phaseOf r) waiting))
-    ∷ (13, estimateAllowed t est)
-    ∷ (15, rootEnded (settledMarks t r est) || worksFrom t 0 (settledMarks t r est))
+    ((notATable, isTable t)
+    ∷ (recordNotAllowed, recordAllowed t r)
+    ∷ (runFinished, not (eqb (phaseOf r) finished))
+    ∷ (wrongPhase, not (eqb (phaseOf r) waiting))
+    ∷ (estimateNotAllowed, estimateAllowed t est)
+    ∷ (nothingAtWork, rootEnded (settledMarks t r est) || worksFrom t 0 (settledMarks t r est))
     ∷ [])
 
 abbrev pub startingLeaves : List ℕ → List ℕ → List Entry

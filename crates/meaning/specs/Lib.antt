@@ -1,10 +1,10 @@
 pub mod Sizes
 pub mod Kinds
 pub mod Tree
+pub mod Answers
 pub mod Program
 pub mod Table
 pub mod Conditions
 pub mod Record
 pub mod Cycle
-pub mod Answers
 pub mod Operations

@@ -13,6 +13,7 @@ use Rattle.meaning.specs.declared.Form.{Form}
 use Rattle.meaning.specs.Sizes.{maxParts, maxVariables, maxClocks, maxDepth, numberWidth, headerLength, lengthOf, kindPlace, operandPlace, numberBytes, numberAt}
 use Rattle.meaning.specs.Kinds.{Kind, UNKNOWN, GOAL, START, WAIT, SEQ, PAR, MAINTAIN, CHOICE, REPEAT, kindOf, numberOf, known, arity, operandAllowed}
 use Rattle.meaning.specs.Tree.{Part, Parts, goal, start, wait, seq, par, maintain, choice, repeat, one, more, fold, depth, size}
+use Rattle.meaning.specs.Answers.{fileTooShort, sizeOutOfRange, wrongLength, unknownKind, operandNotAllowed, notOneTree, tooDeep}
 
 -- "Sizes first: N parts, V variables, K clocks"
 abbrev pub parts : List ℕ → ℕ
@@ -129,17 +130,17 @@ depthAllowed (some p) = leb (depth p) maxDepth
 -- Refusals 1 to 7, "each over all parts", in order: each number with the test that must pass
 abbrev pub partTests : Form → List ℕ → List (ℕ × Bool)
 partTests form s =
-    (4, all knownEntry (entries form s))
-    ∷ (5, all (allowedEntry (variables s) (clocks s)) (entries form s))
-    ∷ (6, isTree (treeOf form s))
-    ∷ (7, depthAllowed (treeOf form s))
+    (unknownKind, all knownEntry (entries form s))
+    ∷ (operandNotAllowed, all (allowedEntry (variables s) (clocks s)) (entries form s))
+    ∷ (notOneTree, isTree (treeOf form s))
+    ∷ (tooDeep, depthAllowed (treeOf form s))
     ∷ []
 
 abbrev pub programTests : Form → List ℕ → List (ℕ × Bool)
 programTests form s =
-    (1, leb headerLength (length s))
-    ∷ (2, sizesAllowed s)
-    ∷ (3, eqb (length s) (lengthOf form (parts s)))
+    (fileTooShort, leb headerLength (length s))
+    ∷ (sizeOutOfRange, sizesAllowed s)
+    ∷ (wrongLength, eqb (length s) (lengthOf form (parts s)))
     ∷ partTests form s
 
 -- the refusal of bytes that are to hold a program, 0 where they do

@@ -14,6 +14,7 @@ use Rattle.meaning.specs.Sizes.{noPart, headerLength, endPlace, parentPl
 use Rattle.meaning.specs.Kinds.{Kind, UNKNOWN, GOAL, START, WAIT, SEQ, PAR, MAINTAIN, CHOICE, REPEAT, kindOf, numberOf}
 use Rattle.meaning.specs.Tree.{Part, fold, size}
 use Rattle.meaning.specs.Program.{parts, variables, clocks, sizeBytes, operandBytes, entryAt, entries, arrays, treeOf, programRefusal}
+use Rattle.meaning.specs.Answers.{bufferTooShort, notATable}
 
 -- "kind; end (one past the part's last descendant); parent; next; the operand"
 pub record Row : Type 0 where
@@ -107,7 +108,7 @@ isTable t = eqb (programRefusal File (fileIn t)) 0 && same (compiled File (fileI
 
 -- "reading 1 to 7, each over all parts, then 8"; `room` is the output buffer's length
 unfoldable pub readRefusal : List ℕ → ℕ → ℕ
-readRefusal f room = cond (eqb (programRefusal File f) 0) (firstFailing ((8, leb (lengthOf Table (parts f)) room) ∷ [])) (programRefusal File f)
+readRefusal f room = cond (eqb (programRefusal File f) 0) (firstFailing ((bufferTooShort, leb (lengthOf Table (parts f)) room) ∷ [])) (programRefusal File f)
 
 -- what stands in the output buffer afterwards: "an output buffer's further bytes are untouched", and a refused call changes nothing
 unfoldable pub readInto : List ℕ → List ℕ → List ℕ
@@ -115,7 +116,7 @@ readInto f out = cond (eqb (readRefusal f (length out)) 0) (sets out 0 (compiled
 
 -- "Back to a file 9, 8"
 unfoldable pub writeRefusal : List ℕ → ℕ → ℕ
-writeRefusal t room = firstFailing ((9, isTable t) ∷ (8, leb (lengthOf File (parts t)) room) ∷ [])
+writeRefusal t room = firstFailing ((notATable, isTable t) ∷ (bufferTooShort, leb (lengthOf File (parts t)) room) ∷ [])
 
 unfoldable pub writtenInto : List ℕ → List ℕ → List ℕ
 writtenInto t out = cond (eqb (writeRefusal t (length out)) 0) (sets out 0 (fileIn t)) out

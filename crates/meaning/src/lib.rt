@@ -4,7 +4,7 @@ pub mod kinds;
 pub mod sizes;
 
 use crate::sizes::ANSWERED;
-use crate::sizes::NO_GOAL;
+use crate::sizes::NO_VARIABLE;
 ghost use mathlib.Core.Path.{_≡_};
 ghost use Rattle.meaning.specs.Answers.{refusalNumber, answerNumber, offerNumber, settleNumber};
 
@@ -134,7 +134,7 @@ pub fn offer_number(a: OfferAnswer) -> u32
 {
     match a {
         OfferAnswer::Refused(r) => refusal_number(r),
-        OfferAnswer::Agreed => ANSWERED + (NO_GOAL as u32),
+        OfferAnswer::Agreed => ANSWERED + (NO_VARIABLE as u32),
         OfferAnswer::Contested(v) => ANSWERED + (v as u32),
     }
 }

@@ -92,3 +92,6 @@ pub const CONTESTED: u8 = 254;
 
 // Numbers from here on are answers that are no refusal.
 pub const ANSWERED: u32 = 256;
+
+// The name in an offer's answer that names no variable: none is contested.
+pub const NO_VARIABLE: u8 = 255;

@@ -13,6 +13,7 @@ use Rattle.meaning.specs.declared.Form.{Form}
 use Rattle.meaning.specs.Sizes.{maxParts, maxVariables, maxClocks, maxDepth, headerLength, lengthOf}
 use Rattle.meaning.specs.Tree.{size, depth}
 use Rattle.meaning.specs.Program.{parts, variables, clocks, sizesAllowed, entries, preorder, knownEntry, allowedEntry, treeOf, isTree, partTests, programRefusal}
+use Rattle.meaning.specs.Answers.{fileTooShort, sizeOutOfRange, wrongLength, unknownKind, operandNotAllowed, notOneTree, tooDeep}
 use Rattle.meaning.proofs.Trees.{length-preorder}
 use Rattle.meaning.proofs.Parsing.{trees-are}
 use Rattle.meaning.proofs.Files.{length-entries}
@@ -39,16 +40,16 @@ unfolding sizesAllowed
 some-part r s e t = leb-true 1 (parts s) (and-left (leb 1 (parts s)) (leb (parts s) maxParts && (leb 1 (variables s) && (leb (variables s) maxVariables && leb (clocks s) maxClocks))) (passed r (sizesAllowed s) e t))
 
 module _ (form : Form) (s : List ℕ) where
-  pub too-short : length s < headerLength → 1 ≡ programRefusal form s
+  pub too-short : length s < headerLength → fileTooShort ≡ programRefusal form s
   unfolding programRefusal
   too-short h = rw (lt-leb headerLength (length s) h)
 
-  pub sizes-refused : (r : Bool) → headerLength ≤ length s → r ≡ sizesAllowed s → not r ≡ true → 2 ≡ programRefusal form s
+  pub sizes-refused : (r : Bool) → headerLength ≤ length s → r ≡ sizesAllowed s → not r ≡ true → sizeOutOfRange ≡ programRefusal form s
   unfolding programRefusal
   sizes-refused r h e t = rw (le-leb headerLength (length s) h, refused r (sizesAllowed s) e t)
 
   module _ (r : Bool) (n m : ℕ) (h : headerLength ≤ length s) (e : r ≡ sizesAllowed s) (t : not r ≡ false) (p : n ≡ parts s) (l : m ≡ lengthOf form n) where
-    pub length-refused : (length s ≡ m → ⊥) → 3 ≡ programRefusal form s
+    pub length-refused : (length s ≡ m → ⊥) → wrongLength ≡ programRefusal form s
     unfolding programRefusal
     length-refused f =
         rw (le-leb headerLength (length s) h, passed r (sizesAllowed s) e t, ne-eqb (length s) (lengthOf form (parts s)) (λ x. f (x ∙ sym (l ∙ ap (lengthOf form) p))))
@@ -59,14 +60,14 @@ module _ (form : Form) (s : List ℕ) where
         g ∙ rw (le-leb headerLength (length s) h, passed r (sizesAllowed s) e t, eq-eqb (length s) (lengthOf form (parts s)) (f ∙ l ∙ ap (lengthOf form) p))
 
   module _ (known : Bool) (a : known ≡ all knownEntry (entries form s)) where
-    pub kinds-refused : not known ≡ true → 4 ≡ firstFailing (partTests form s)
+    pub kinds-refused : not known ≡ true → unknownKind ≡ firstFailing (partTests form s)
     kinds-refused t = rw (refused known (all knownEntry (entries form s)) a t)
 
     module _ (t : not known ≡ false) (allowed : Bool) (b : allowed ≡ all (allowedEntry (variables s) (clocks s)) (entries form s)) where
       kinds-pass : all knownEntry (entries form s) ≡ true
       kinds-pass = passed known (all knownEntry (entries form s)) a t
 
-      pub operands-refused : not allowed ≡ true → 5 ≡ firstFailing (partTests form s)
+      pub operands-refused : not allowed ≡ true → operandNotAllowed ≡ firstFailing (partTests form s)
       operands-refused u = rw (kinds-pass, refused allowed (all (allowedEntry (variables s) (clocks s)) (entries form s)) b u)
 
       module _ (u : not allowed ≡ false) (r : Bool) (d : r ≡ fills (entries form s) 1) where
@@ -76,7 +77,7 @@ module _ (form : Form) (s : List ℕ) where
         tree-is : isTree (treeOf form s) ≡ r
         tree-is = one-tree (variables s) (clocks s) form s kinds-pass operands-pass ∙ sym d
 
-        pub tree-refused : not r ≡ true → 6 ≡ firstFailing (partTests form s)
+        pub tree-refused : not r ≡ true → notOneTree ≡ firstFailing (partTests form s)
         tree-refused f = rw (kinds-pass, operands-pass, tree-is, not-true r f)
 
         -- a tree that stands alone has all parts
@@ -86,13 +87,13 @@ module _ (form : Form) (s : List ℕ) where
             omega (arith, length-preorder (one .part), ap length are, length-append (preorder (one .part)) [], length-entries form s)
 
         -- one tree of allowed parts that the walk does not find to end is too deep
-        pub depth-refused : not r ≡ false → (partsEnd form s anyEnd maxDepth 1 0 ≡ parts s → ⊥) → 7 ≡ firstFailing (partTests form s)
+        pub depth-refused : not r ≡ false → (partsEnd form s anyEnd maxDepth 1 0 ≡ parts s → ⊥) → tooDeep ≡ firstFailing (partTests form s)
         depth-refused f no-end =
             let one : Alone form s = alone form s (tree-is ∙ not-false r f) in
             let fine : (p : ℕ) → p < parts s → Fine form s anyEnd p = λ p h. record { allowed = each-entry form s (allowedEntry (variables s) (clocks s)) operands-pass p h; tested = refl } in
             go one (leb (depth (one .part)) maxDepth) refl (whole-reached form s anyEnd fine maxDepth (one .part) (one .is))
           where
-            go : (one : Alone form s) (x : Bool) → leb (depth (one .part)) maxDepth ≡ x → partsEnd form s anyEnd maxDepth 1 0 ≡ cond x (0 + size (one .part)) 0 → 7 ≡ firstFailing (partTests form s)
+            go : (one : Alone form s) (x : Bool) → leb (depth (one .part)) maxDepth ≡ x → partsEnd form s anyEnd maxDepth 1 0 ≡ cond x (0 + size (one .part)) 0 → tooDeep ≡ firstFailing (partTests form s)
             go one true x-is e = absurd (no-end (e ∙ omega (arith, alone-size one)))
             go one false x-is e = rw (kinds-pass, operands-pass, one .tree, x-is)
 

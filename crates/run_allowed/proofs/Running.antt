@@ -8,6 +8,7 @@ use borrow.Author.Tests.{le-leb, lt-leb, not-true, not-false, ne-eqb}
 use Rattle.base.specs.Lists.{firstFailing}
 use Rattle.meaning.specs.Table.{isTable}
 use Rattle.meaning.specs.Record.{recordLength, phaseOf, marksIn, finished, restZero, valuesAllowed, clocksAllowed, rootAllowed, partsAllowed, recordAllowed}
+use Rattle.meaning.specs.Answers.{notATable, recordNotAllowed, runFinished}
 use Rattle.run_allowed.specs.Running.{runTests}
 
 pub too-short : (t r : List ℕ) → length r < recordLength → false ≡ recordAllowed t r
@@ -15,18 +16,18 @@ unfolding recordAllowed
 too-short t r h = rw (lt-leb recordLength (length r) h)
 
 module _ (t r : List ℕ) (a : Bool) (a-is : a ≡ isTable t) where
-  pub not-table : not a ≡ true → 9 ≡ firstFailing (runTests t r)
+  pub not-table : not a ≡ true → notATable ≡ firstFailing (runTests t r)
   not-table h = rw (← a-is, not-true a h)
 
   pub is-table : not a ≡ false → isTable t ≡ true
   is-table h = sym a-is ∙ not-false a h
 
   module _ (b : Bool) (b-is : b ≡ recordAllowed t r) (a-holds : not a ≡ false) where
-    pub not-allowed : not b ≡ true → 10 ≡ firstFailing (runTests t r)
+    pub not-allowed : not b ≡ true → recordNotAllowed ≡ firstFailing (runTests t r)
     not-allowed h = rw (← a-is, not-false a a-holds, ← b-is, not-true b h)
 
     module _ (p : ℕ) (p-is : p ≡ phaseOf r) (b-holds : not b ≡ false) where
-      pub run-over : p ≡ finished → 14 ≡ firstFailing (runTests t r)
+      pub run-over : p ≡ finished → runFinished ≡ firstFailing (runTests t r)
       run-over h = rw (← a-is, not-false a a-holds, ← b-is, not-false b b-holds, ← p-is, h)
 
       pub goes-on : (p ≡ finished → ⊥) → 0 ≡ firstFailing (runTests t r)

@@ -15,6 +15,7 @@ use Rattle.meaning.specs.Table.{isTable}
 use Rattle.meaning.specs.Record.{estimatePlace, marksPlace, recordLength, waiting, padded, recordBytes}
 use Rattle.meaning.specs.Cycle.{fresh, estimateAllowed, beginRefusal, begunInto}
 use Rattle.meaning.specs.Operations.{Begun}
+use Rattle.meaning.specs.Answers.{bufferTooShort, notATable, estimateNotAllowed}
 use Rattle.meaning.proofs.Tables.{table-held, root-there}
 use Rattle.program_part.proofs.Places.{parts-fit}
 use Rattle.meaning.proofs.Records.{Shaped, length-root, estimate-fits, begin-tests, begun-fits, begun-bytes, estimate-written, marks-written}
@@ -81,17 +82,17 @@ module _ (t est r : List ℕ) where
   module _ (b : Bool) (b-is : b ≡ isTable t) where
     pub begin-no-table : not b ≡ true → Begun t est r 9 r
     unfolding beginRefusal
-    begin-no-table d = refused 9 (rw (sym b-is ∙ not-true b d)) (λ e. omega arith)
+    begin-no-table d = refused notATable (rw (sym b-is ∙ not-true b d)) (λ e. omega arith)
 
     module _ (c : Bool) (d : not b ≡ false) (c-is : c ≡ estimateAllowed t est) where
       pub begin-no-estimate : not c ≡ true → Begun t est r 13 r
       unfolding beginRefusal
-      begin-no-estimate f = refused 13 (rw (sym b-is ∙ not-false b d, sym c-is ∙ not-true c f)) (λ e. omega arith)
+      begin-no-estimate f = refused estimateNotAllowed (rw (sym b-is ∙ not-false b d, sym c-is ∙ not-true c f)) (λ e. omega arith)
 
       module _ (f : not c ≡ false) where
         pub begin-short : length r < recordLength → Begun t est r 8 r
         unfolding beginRefusal
-        begin-short l = refused 8 (rw (sym b-is ∙ not-false b d, sym c-is ∙ not-false c f, lt-leb recordLength (length r) l)) (λ e. omega arith)
+        begin-short l = refused bufferTooShort (rw (sym b-is ∙ not-false b d, sym c-is ∙ not-false c f, lt-leb recordLength (length r) l)) (λ e. omega arith)
 
         pub not-refused : recordLength ≤ length r → beginRefusal t est (length r) ≡ 0
         unfolding beginRefusal

@@ -11,13 +11,13 @@ use lib.Dec.{eqb}
 use lib.ListN.{length, getD}
 use borrow.Author.Tests.{eqb-true, eqb-false, eq-eqb, ne-eqb}
 use Rattle.base.specs.Lists.{bytesAt}
-use Rattle.meaning.specs.Cycle.{noGoal, contested, Names}
-use Rattle.meaning.specs.Answers.{answered}
+use Rattle.meaning.specs.Cycle.{contested, Names}
+use Rattle.meaning.specs.Answers.{answered, noVariable}
 use Rattle.run_goals.specs.Raised.{lowestContested}
 
 -- what is named among the bytes of the variables from v on
 abbrev Named : ℕ → List ℕ → ℕ → Type 0
-Named v gs x = ((i : ℕ) × (i < length gs) × (x ≡ v + i) × (getD gs i 0 ≡ contested)) ⊎ ((x ≡ noGoal) × ((i : ℕ) → i < length gs → getD gs i 0 ≡ contested → ⊥))
+Named v gs x = ((i : ℕ) × (i < length gs) × (x ≡ v + i) × (getD gs i 0 ≡ contested)) ⊎ ((x ≡ noVariable) × ((i : ℕ) → i < length gs → getD gs i 0 ≡ contested → ⊥))
 
 module _ (v b : ℕ) (bs : List ℕ) (x : ℕ) where
   next-named : (eqb b contested ≡ false) → Named (suc v) bs x → Named v (b ∷ bs) x
@@ -61,11 +61,11 @@ module _ (g : List ℕ) (v n x : ℕ) (i : lowestContested v (bytesAt g v (n - v
   pub name-passed : (w : ℕ) → v < n → w ≡ v → (getD g w 0 ≡ contested → ⊥) → lowestContested (v + 1) (bytesAt g (v + 1) (n - (v + 1))) ≡ x
   name-passed w l w-is h = rw add-one (rw (ne-eqb (getD g v 0) contested (λ e. h (rw w-is e))) at (name-next l))
 
-  pub name-none : n ≤ v → answered + noGoal ≡ answered + x
+  pub name-none : n ≤ v → answered + noVariable ≡ answered + x
   unfolding lowestContested
   name-none l =
       let k : n - v ≡ 0 = omega arith in
-      let e : noGoal ≡ x = rw k at i in
+      let e : noVariable ≡ x = rw k at i in
       ap (λ (y : ℕ). answered + y) e
 
 pub name-starts : (g : List ℕ) (n : ℕ) → lowestContested 0 (bytesAt g 0 (n - 0)) ≡ lowestContested 0 (bytesAt g 0 n)

@@ -11,6 +11,7 @@ use Rattle.meaning.specs.Kinds.{GOAL, value}
 use Rattle.meaning.specs.Program.{entryAt}
 use Rattle.meaning.specs.Record.{isMark}
 use Rattle.meaning.specs.Cycle.{noGoal, contested, isKind, isLeaf}
+use Rattle.meaning.specs.Answers.{noVariable}
 
 -- what goal byte b becomes when one more GOAL gives value x
 unfoldable pub joined : ℕ → ℕ → ℕ
@@ -31,5 +32,5 @@ leafAt t p m = cond (isMark m && isLeaf (entryAt Table t p)) (entryAt Table t p 
 
 -- the lowest variable whose byte is contested, of those from v on, or 255
 unfoldable pub lowestContested : ℕ → List ℕ → ℕ
-lowestContested v [] = noGoal
+lowestContested v [] = noVariable
 lowestContested v (b ∷ bs) = cond (eqb b contested) v (lowestContested (suc v) bs)

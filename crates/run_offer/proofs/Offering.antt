@@ -20,7 +20,7 @@ use Rattle.meaning.specs.Program.{parts, variables}
 use Rattle.meaning.specs.Table.{isTable}
 use Rattle.meaning.specs.Record.{timePlace, estimatePlace, marksPlace, recordLength, phaseOf, lastTime, estimateIn, marksIn, offered}
 use Rattle.meaning.specs.Cycle.{leavesFrom, goalBytes, situation, checkedFrom, offerRefusal, checkedMarks, offeredGoals, offeredRecord, offeredInto, goalsInto}
-use Rattle.meaning.specs.Answers.{answered, refusalNumber, answerNumber}
+use Rattle.meaning.specs.Answers.{answered, refusalNumber, answerNumber, bufferTooShort, wrongPhase, timeBeforeLast}
 use Rattle.meaning.specs.Operations.{Offered}
 use Rattle.meaning.proofs.Answers.{not-refused, is-refused, refused-before, left-open}
 use Rattle.meaning.proofs.Records.{length-checked, allowed-long}
@@ -35,7 +35,7 @@ use Rattle.run_goals.proofs.Names.{lowest-names}
 -- The refusals: those of every run that does not go on, then each by the test that fails after those that pass
 module _ (t r : List ℕ) (time room : ℕ) where
   abbrev lateTests : List (ℕ × Bool)
-  lateTests = (11, not (eqb (phaseOf r) offered)) ∷ (12, leb (lastTime r) time) ∷ (8, leb (variables t) room) ∷ []
+  lateTests = (wrongPhase, not (eqb (phaseOf r) offered)) ∷ (timeBeforeLast, leb (lastTime r) time) ∷ (bufferTooShort, leb (variables t) room) ∷ []
 
   module _ (a : Answer) (a-is : answerNumber a ≡ firstFailing (runTests t r)) where
     pub refused-early : (why : Refusal) → a ≡ Refused why → answerNumber a ≡ offerRefusal t r time room
@@ -51,15 +51,15 @@ module _ (t r : List ℕ) (time room : ℕ) where
       unfolding offerRefusal
       then-late = left-open (runTests t r) lateTests refl a a-is goes
 
-      pub offered-already : p ≡ offered → 11 ≡ offerRefusal t r time room
+      pub offered-already : p ≡ offered → wrongPhase ≡ offerRefusal t r time room
       offered-already h = sym (then-late ∙ rw (← p-is, h))
 
       module _ (waits : p ≡ offered → ⊥) (l : ℕ) (l-is : l ≡ lastTime r) where
-        pub too-early : time < l → 12 ≡ offerRefusal t r time room
+        pub too-early : time < l → timeBeforeLast ≡ offerRefusal t r time room
         too-early h = sym (then-late ∙ rw (← p-is, ne-eqb p offered waits, lt-leb (lastTime r) time (rw (← l-is) h)))
 
         module _ (v w : ℕ) (v-is : v ≡ variables t) (w-is : w ≡ v) (in-time : l ≤ time) where
-          pub no-room : room < w → 8 ≡ offerRefusal t r time room
+          pub no-room : room < w → bufferTooShort ≡ offerRefusal t r time room
           no-room h = sym (then-late ∙ rw (← p-is, ne-eqb p offered waits, le-leb (lastTime r) time (rw (← l-is) in-time), lt-leb (variables t) room (omega arith)))
 
           pub none-refuses : w ≤ room → 0 ≡ offerRefusal t r time room

@@ -19,7 +19,7 @@ use Rattle.meaning.specs.Program.{parts, variables}
 use Rattle.meaning.specs.Table.{isTable}
 use Rattle.meaning.specs.Record.{recordAllowed, recordLength, phaseOf, lastTime, marksPlace, marksIn, waiting}
 use Rattle.meaning.specs.Cycle.{estimateAllowed, situation, settledMarks, rootEnded, worksFrom, settleRefusal, settledRecord, settledInto}
-use Rattle.meaning.specs.Answers.{refusalNumber, answerNumber, answered}
+use Rattle.meaning.specs.Answers.{refusalNumber, answerNumber, answered, nothingAtWork, wrongPhase, estimateNotAllowed}
 use Rattle.meaning.specs.Operations.{Settled}
 use Rattle.meaning.proofs.Answers.{not-refused, is-refused, refused-before, left-open}
 use Rattle.meaning.proofs.Records.{length-settled, allowed-long, estimate-fits}
@@ -40,11 +40,11 @@ module _ (t r est : List ℕ) where
       unfolding earlyRefusal
       then-later = left-open (runTests t r) (laterTests t r est) refl a a-is going
 
-      pub is-waiting : k ≡ waiting → 11 ≡ earlyRefusal t r est
+      pub is-waiting : k ≡ waiting → wrongPhase ≡ earlyRefusal t r est
       is-waiting e = sym (then-later ∙ rw (← k-is, e))
 
       module _ (asked : k ≡ waiting → ⊥) (d : Bool) (d-is : d ≡ estimateAllowed t est) where
-        pub not-estimate : not d ≡ true → 13 ≡ earlyRefusal t r est
+        pub not-estimate : not d ≡ true → estimateNotAllowed ≡ earlyRefusal t r est
         not-estimate n = sym (then-later ∙ rw (← k-is, ne-eqb k waiting asked, sym d-is ∙ not-true d n))
 
         pub none-early : not d ≡ false → 0 ≡ earlyRefusal t r est
@@ -52,7 +52,7 @@ module _ (t r est : List ℕ) where
 
   -- 15 comes after them
   abbrev lastTest : List (ℕ × Bool)
-  lastTest = (15, rootEnded (settledMarks t r est) || worksFrom t 0 (settledMarks t r est)) ∷ []
+  lastTest = (nothingAtWork, rootEnded (settledMarks t r est) || worksFrom t 0 (settledMarks t r est)) ∷ []
 
   -- Judging: an early refusal is the settling's
   pub judged-early : (a : Answer) (why : Refusal) (m : List ℕ) → answerNumber a ≡ earlyRefusal t r est → a ≡ Refused why → Judged t r est (answerNumber a) m

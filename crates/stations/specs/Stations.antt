@@ -12,6 +12,7 @@ use Rattle.meaning.specs.Program.{variables, clocks, treeOf, programRefusal}
 use Rattle.meaning.specs.Table.{compiled}
 use Rattle.meaning.specs.Record.{recordLength, startedIn, startsIn}
 use Rattle.meaning.specs.Cycle.{beginRefusal, begunInto}
+use Rattle.meaning.specs.Answers.{tooDeep, bufferTooShort, wrongPhase, timeBeforeLast, estimateNotAllowed, runFinished}
 use Rattle.agreement.specs.Runs.{Call, offer, settling, Reply, refused, goals, running, done, tableReplies, tableAfter, begin, treeReplies, treeAfter, tableFinishing, treeFinishing}
 
 -- A station: the program file, what reading answers (0, or its refusal), the first estimate, the calls, their replies, the finishing cycle,
@@ -92,7 +93,7 @@ stations =
     ∷ starting starts2 (at 10 ∷ with-estimate 0 ∷ at 20 ∷ with-estimate 0 ∷ []) (goal-is 255 ∷ running ∷ goal-is 255 ∷ done ∷ []) (some 2) 10
     ∷ starting waits (at 100 ∷ with-estimate 0 ∷ at 109 ∷ with-estimate 0 ∷ at 110 ∷ with-estimate 0 ∷ []) (goal-is 255 ∷ running ∷ goal-is 255 ∷ running ∷ goal-is 255 ∷ done ∷ []) (some 3) 100
     ∷ station (repeats 15) 0 (at 0 ∷ []) (goal-is 1 ∷ []) none
-    ∷ turnedDown (repeats 16) 7
+    ∷ turnedDown (repeats 16) tooDeep
     ∷ []
 
 -- What no station tries: WAIT 0=1, SEQ(START 0, WAIT clock 0 below 5) on either side of its bound, and refused calls, which change nothing:
@@ -109,8 +110,8 @@ further =
     station waitsValue 0 (at 0 ∷ with-estimate 0 ∷ at 0 ∷ with-estimate 1 ∷ []) (goal-is 255 ∷ running ∷ goal-is 255 ∷ done ∷ []) (some 2)
     ∷ starting waitsBelow (at 10 ∷ with-estimate 0 ∷ at 15 ∷ with-estimate 0 ∷ []) (goal-is 255 ∷ running ∷ goal-is 255 ∷ running ∷ []) none 10
     ∷ starting waitsBelow (at 10 ∷ with-estimate 0 ∷ at 14 ∷ with-estimate 0 ∷ []) (goal-is 255 ∷ running ∷ goal-is 255 ∷ done ∷ []) (some 2) 10
-    ∷ station goal1 0 (with-estimate 0 ∷ at 5 ∷ with-estimate 251 ∷ settling (0 ∷ 0 ∷ []) ∷ at 5 ∷ with-estimate 0 ∷ []) (refused 11 ∷ goal-is 1 ∷ refused 13 ∷ refused 13 ∷ refused 11 ∷ running ∷ []) none
-    ∷ station goal1 0 (at 5 ∷ with-estimate 0 ∷ at 4 ∷ offer 5 [] ∷ at 5 ∷ with-estimate 1 ∷ at 6 ∷ with-estimate 1 ∷ []) (goal-is 1 ∷ running ∷ refused 12 ∷ refused 8 ∷ goal-is 1 ∷ done ∷ refused 14 ∷ refused 14 ∷ []) (some 2)
+    ∷ station goal1 0 (with-estimate 0 ∷ at 5 ∷ with-estimate 251 ∷ settling (0 ∷ 0 ∷ []) ∷ at 5 ∷ with-estimate 0 ∷ []) (refused wrongPhase ∷ goal-is 1 ∷ refused estimateNotAllowed ∷ refused estimateNotAllowed ∷ refused wrongPhase ∷ running ∷ []) none
+    ∷ station goal1 0 (at 5 ∷ with-estimate 0 ∷ at 4 ∷ offer 5 [] ∷ at 5 ∷ with-estimate 1 ∷ at 6 ∷ with-estimate 1 ∷ []) (goal-is 1 ∷ running ∷ refused timeBeforeLast ∷ refused bufferTooShort ∷ goal-is 1 ∷ done ∷ refused runFinished ∷ refused runFinished ∷ []) (some 2)
     ∷ []
 
 -- Station 10: "The file .. and its table below"
