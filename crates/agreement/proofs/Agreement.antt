@@ -29,7 +29,7 @@ use Rattle.meaning.proofs.Records.{Fits, judged, phase-read, time-read, estimat
 use Rattle.meaning.proofs.Refusals.{begin-refused}
 use Rattle.meaning.proofs.Lies.{Lies, root-lies}
 use Rattle.agreement.specs.Unfolding.{Rest, afresh, check, working, settle}
-use Rattle.agreement.specs.Runs.{Call, offer, settling, Reply, refused, goals, running, done, tableReply, tableNext, State, begin, Fed, fed, offering, settled, refusalOf, workingOf, phaseFor, treeNext, treeReply, acceptedReply, settledState, NameAlike, possible, Alike, counted, tableFinishing, treeFinishing, Timed, estimateFits, Demand3}
+use Rattle.agreement.specs.Runs.{Call, offer, settling, Reply, refused, goals, running, done, tableReply, tableNext, State, begin, Fed, fed, offering, settled, refusalOf, workingOf, phaseFor, treeNext, treeReply, acceptedReply, settledState, NameAlike, possible, Alike, counted, tableFinishing, treeFinishing, Timed, Demand3}
 use Rattle.agreement.proofs.Contested.{names-contested}
 use Rattle.agreement.proofs.AtWork.{all-working, small-values}
 use Rattle.agreement.proofs.Shapes.{length-marks}
@@ -130,7 +130,7 @@ module _ (v k : ℕ) (p : Part) (w : Within v k p) where
     -- both refuse the same settlings
     settle-refusal : (rest : Option (Rest p)) → Good phase time est started starts rest → (new : List ℕ)
         → settleRefusal t (held phase time est started starts rest more) new ≡ refusalOf p v (stateOf phase time est started starts rest) (settled new)
-    unfolding settleRefusal estimateAllowed
+    unfolding settleRefusal
     settle-refusal none g new = rw (table, record-good none g, phase-read (g .fits) phase more, g .phased)
     settle-refusal (some r) g new = rw (table, record-good (some r) g, phase-read (g .fits) phase more, works r g new, variables-are)
 
@@ -161,7 +161,7 @@ module _ (v k : ℕ) (p : Part) (w : Within v k p) where
 
   offer-waits : (phase time now room : ℕ) (est started starts : List ℕ) (rest : Option (Rest p)) → Phase phase rest
       → refusalOf p v (stateOf phase time est started starts rest) (offering now room) ≡ 0 → Waiting time now room rest
-  offer-waits phase time now room est started starts none h z = absurd (let bad : _≡_ {A = ℕ} 14 0 = rw h at z in omega arith)
+  offer-waits phase time now room est started starts none h z = absurd (let bad : _≡_ {A = ℕ} runFinished 0 = rw h at z in omega arith)
   offer-waits phase time now room est started starts (some r) (inr h) z = absurd (let bad : _≡_ {A = ℕ} 11 0 = rw h at z in omega arith)
   offer-waits phase time now room est started starts (some r) (inl h) z =
       let tests = none-fails ((runFinished, not (eqb phase finished)) ∷ (wrongPhase, not (eqb phase offered)) ∷ (timeBeforeLast, leb time now) ∷ (bufferTooShort, leb v room) ∷ []) refl z in
@@ -176,9 +176,10 @@ module _ (v k : ℕ) (p : Part) (w : Within v k p) where
 
   settle-waits : (phase time : ℕ) (est started starts new : List ℕ) (rest : Option (Rest p)) → Phase phase rest
       → refusalOf p v (stateOf phase time est started starts rest) (settled new) ≡ 0 → Offered new rest
-  settle-waits phase time est started starts new none h z = absurd (let bad : _≡_ {A = ℕ} 14 0 = rw h at z in omega arith)
+  unfolding estimateAllowed
+  settle-waits phase time est started starts new none h z = absurd (let bad : _≡_ {A = ℕ} runFinished 0 = rw h at z in omega arith)
   settle-waits phase time est started starts new (some r) h z =
-      let tests = none-fails ((runFinished, not (eqb phase finished)) ∷ (wrongPhase, not (eqb phase waiting)) ∷ (estimateNotAllowed, estimateFits v new) ∷ []) refl z in
+      let tests = none-fails ((runFinished, not (eqb phase finished)) ∷ (wrongPhase, not (eqb phase waiting)) ∷ (estimateNotAllowed, estimateAllowed v new) ∷ []) refl z in
       let allowed = tests .1 .1 .0 in
       record { remaining = r; is = refl; long = eqb-true (length new) v (and-left (eqb (length new) v) (all (λ x. leb x maxValue) new) allowed); small = and-right (eqb (length new) v) (all (λ x. leb x maxValue) new) allowed }
 
@@ -350,7 +351,7 @@ module _ (v k : ℕ) (p : Part) (w : Within v k p) where
   refusal-possible st (offering now room) =
       failing-passes (λ n. possible (refused n)) ((runFinished, not (eqb (st .phase) finished)) ∷ (wrongPhase, not (eqb (st .phase) offered)) ∷ (timeBeforeLast, leb (st .time) now) ∷ (bufferTooShort, leb v room) ∷ []) refl refl
   refusal-possible st (settled new) =
-      failing-passes (λ n. possible (refused n)) ((runFinished, not (eqb (st .phase) finished)) ∷ (wrongPhase, not (eqb (st .phase) waiting)) ∷ (estimateNotAllowed, estimateFits v new) ∷ []) refl refl
+      failing-passes (λ n. possible (refused n)) ((runFinished, not (eqb (st .phase) finished)) ∷ (wrongPhase, not (eqb (st .phase) waiting)) ∷ (estimateNotAllowed, estimateAllowed v new) ∷ []) refl refl
 
   given-possible : (st : State p) (c : Fed) → possible (acceptedReply p v k st c) ≡ true
   given-possible st (offering now room) = refl
@@ -413,8 +414,8 @@ module _ (v k : ℕ) (p : Part) (w : Within v k p) where
   begun-held est r h = begun-bytes t est r h length-begun ∙ rw (fresh-lies t p lies, clocks-are)
 
   -- a beginning is refused by 13 or 8
-  begin-refusal : (est : List ℕ) (room : ℕ) → beginRefusal t est room ≡ firstFailing ((estimateNotAllowed, estimateFits v est) ∷ (bufferTooShort, leb recordLength room) ∷ [])
-  unfolding beginRefusal estimateAllowed
+  begin-refusal : (est : List ℕ) (room : ℕ) → beginRefusal t est room ≡ firstFailing ((estimateNotAllowed, estimateAllowed v est) ∷ (bufferTooShort, leb recordLength room) ∷ [])
+  unfolding beginRefusal
   begin-refusal est room = rw (table, variables-are)
 
 pub demand-3 : Demand3

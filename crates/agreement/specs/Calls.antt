@@ -15,7 +15,8 @@ use Rattle.meaning.specs.Program.{parts, variables, clocks, treeOf}
 use Rattle.meaning.specs.Record.{phaseOf, lastTime, estimateIn, startedIn, startsIn, recordLength, finished}
 use Rattle.meaning.specs.Answers.{answered, bufferTooShort, estimateNotAllowed}
 use Rattle.meaning.specs.Operations.{Read, Begun, Offered, Settled}
-use Rattle.agreement.specs.Runs.{Call, offer, settling, Reply, refused, goals, running, done, State, begin, fed, workingOf, offeredState, treeNext, treeReplies, treeAfter, treeFinishing, counted, possible, estimateFits, NamesContested, Timed}
+use Rattle.meaning.specs.Cycle.{estimateAllowed}
+use Rattle.agreement.specs.Runs.{Call, offer, settling, Reply, refused, goals, running, done, State, begin, fed, workingOf, offeredState, treeNext, treeReplies, treeAfter, treeFinishing, counted, possible, NamesContested, Timed}
 
 -- The table in the buffer that reading leaves: as many bytes as the table of the file's parts has
 abbrev pub tableIn : List ℕ → List ℕ → List ℕ
@@ -86,7 +87,7 @@ pub record CallsAlike (t r : List ℕ) (p : Part) (v k : ℕ) (st : State p) (ms
 pub record OperationsAlike (f t est r : List ℕ) (answer : ℕ) (r' : List ℕ) : Type 0 where
   pub program : Part
   pub read : treeOf File f ≡ some program
-  pub beginning : answer ≡ firstFailing ((estimateNotAllowed, estimateFits (variables f) est) ∷ (bufferTooShort, leb recordLength (length r)) ∷ [])
+  pub beginning : answer ≡ firstFailing ((estimateNotAllowed, estimateAllowed (variables f) est) ∷ (bufferTooShort, leb recordLength (length r)) ∷ [])
   pub unbegun : (answer ≡ 0 → ⊥) → r' ≡ r
   pub begun : answer ≡ 0 → (ms : List Made) → AllPromised t r' ms → Timed (map callOf ms) → CallsAlike t r' program (variables f) (clocks f) (begin program (clocks f) est) ms
 

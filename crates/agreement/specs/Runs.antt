@@ -2,21 +2,21 @@
 use Prim.Native.Nat.{ℕ, _+_, _^_, _<_}
 use mathlib.Core.Path.{_≡_}
 use mathlib.Core.Logic.{_⊎_}
-use mathlib.Core.Bool.{Bool, true, cond, not, _&&_, _||_}
+use mathlib.Core.Bool.{Bool, true, cond, not, _||_}
 use mathlib.Core.Option.{Option, none, some, Option·map}
 use mathlib.Core.List.{List, [], _∷_}
 use lib.Dec.{eqb, leb}
 use lib.ListN.{length, getD, replicate}
 use Rattle.base.specs.Lists.{all, firstFailing, bytesAt}
 use Rattle.meaning.specs.declared.Entry.{Entry}
-use Rattle.meaning.specs.Sizes.{maxValue, timeLimit}
+use Rattle.meaning.specs.Sizes.{timeLimit}
 use Rattle.meaning.specs.Tree.{Part}
 use Rattle.meaning.specs.declared.Form.the-variants.{File}
 use Rattle.meaning.specs.Program.{variables, clocks, treeOf, programRefusal}
 use Rattle.meaning.specs.Table.{compiled}
 use Rattle.meaning.specs.Conditions.{Situation}
 use Rattle.meaning.specs.Record.{phaseOf, lastTime, estimateIn, startedIn, startsIn, recordLength, waiting, offered, finished}
-use Rattle.meaning.specs.Cycle.{beginRefusal, begunInto, Names, valuesFor, goalBytes, clockFlags, clockStarts, offerRefusal, offeredInto, goalsInto, settleRefusal, settledInto}
+use Rattle.meaning.specs.Cycle.{beginRefusal, begunInto, Names, valuesFor, goalBytes, clockFlags, clockStarts, offerRefusal, offeredInto, goalsInto, settleRefusal, settledInto, estimateAllowed}
 use Rattle.meaning.specs.Answers.{bufferTooShort, notATable, recordNotAllowed, wrongPhase, timeBeforeLast, estimateNotAllowed, runFinished, nothingAtWork, noVariable}
 use Rattle.agreement.specs.Unfolding.{Rest, afresh, check, working, settle}
 
@@ -85,10 +85,6 @@ abbrev pub tableAfter : List ℕ → List ℕ → List Call → List ℕ
 tableAfter t r [] = r
 tableAfter t r (c ∷ cs) = tableAfter t (tableNext t r c) cs
 
--- "estimate not V bytes, or one above 250" (refusal 13)
-abbrev pub estimateFits : ℕ → List ℕ → Bool
-estimateFits v est = eqb (length est) v && all (λ x. leb x maxValue) est
-
 module _ (p : Part) where
   -- "a run begins with the root afresh"
   abbrev pub begin : ℕ → List ℕ → State p
@@ -97,7 +93,7 @@ module _ (p : Part) where
   -- "refusals 8 and 11 to 14 are as above", in the order of the operations
   abbrev pub refusalOf : ℕ → State p → Fed → ℕ
   refusalOf v st (offering time room) = firstFailing ((runFinished, not (eqb (st .phase) finished)) ∷ (wrongPhase, not (eqb (st .phase) offered)) ∷ (timeBeforeLast, leb (st .time) time) ∷ (bufferTooShort, leb v room) ∷ [])
-  refusalOf v st (settled est) = firstFailing ((runFinished, not (eqb (st .phase) finished)) ∷ (wrongPhase, not (eqb (st .phase) waiting)) ∷ (estimateNotAllowed, estimateFits v est) ∷ [])
+  refusalOf v st (settled est) = firstFailing ((runFinished, not (eqb (st .phase) finished)) ∷ (wrongPhase, not (eqb (st .phase) waiting)) ∷ (estimateNotAllowed, estimateAllowed v est) ∷ [])
 
   -- what conditions are judged by
   abbrev pub situationOf : State p → List ℕ → ℕ → Situation
@@ -219,7 +215,7 @@ Timed (settling est ∷ cs) = Timed cs
 pub record RunsAlike (f est r : List ℕ) (cs : List Call) : Type 0 where
   pub program : Part
   pub read : treeOf File f ≡ some program
-  pub beginning : beginRefusal (compiled File f) est (length r) ≡ firstFailing ((estimateNotAllowed, estimateFits (variables f) est) ∷ (bufferTooShort, leb recordLength (length r)) ∷ [])
+  pub beginning : beginRefusal (compiled File f) est (length r) ≡ firstFailing ((estimateNotAllowed, estimateAllowed (variables f) est) ∷ (bufferTooShort, leb recordLength (length r)) ∷ [])
   pub unbegun : (beginRefusal (compiled File f) est (length r) ≡ 0 → ⊥) → begunInto (compiled File f) est r ≡ r
   pub begun : beginRefusal (compiled File f) est (length r) ≡ 0 → Alike (compiled File f) (begunInto (compiled File f) est r) program (variables f) (clocks f) (begin program (clocks f) est) cs
 

@@ -13,6 +13,7 @@ use lib.Seq.{getD-append-add}
 use borrow.Author.Tests.{leb-true, le-leb, eqb-true, eq-eqb}
 use Rattle.base.specs.Lists.{flat, all}
 use Rattle.base.proofs.Lists.{all-append, length-pieces, piece-at, Passed, none-fails, passed}
+use Rattle.base.proofs.Stores.{bytes-all}
 use Rattle.meaning.specs.declared.Entry.{Entry}
 use Rattle.meaning.specs.declared.Form.{Form}
 use Rattle.meaning.specs.declared.Form.the-variants.{File, Table}
@@ -244,15 +245,6 @@ module _ (v k : ℕ) (p : Part) (w : Within v k p) where
 pub bytes-append : (s : List ℕ) (i a b : ℕ) → bytesAt s i (a + b) ≡ bytesAt s i a ++ bytesAt s (i + a) b
 bytes-append s i zero b = rw (zero-add, add-zero)
 bytes-append s i (suc a) b = rw (suc-add, bytes-append s (suc i) a b, suc-add, ← add-suc)
-
-bytes-tail : (x : ℕ) (s : List ℕ) (i n : ℕ) → bytesAt (x ∷ s) (suc i) n ≡ bytesAt s i n
-bytes-tail x s i zero = refl
-bytes-tail x s i (suc n) = rw (bytes-tail x s (suc i) n)
-
--- all the bytes of a list are that list
-pub bytes-all : (s : List ℕ) → bytesAt s 0 (length s) ≡ s
-bytes-all [] = refl
-bytes-all (x ∷ s) = rw (bytes-tail x s 0 (length s), bytes-all s)
 
 -- a list cut into pieces of one width is those pieces one after the other
 module _ (form : Form) (s : List ℕ) (g : Entry → List ℕ) (w a : ℕ) (cut : (q : ℕ) → g (entryAt form s q) ≡ bytesAt s (a + w * q) w) where

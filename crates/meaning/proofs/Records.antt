@@ -388,7 +388,7 @@ allowed-clock t r h c l =
     )
 
 -- an estimate that is allowed has a value for each variable, none too large
-pub estimate-fits : (t est : List ℕ) → estimateAllowed t est ≡ true → (length est ≡ variables t) × (all (λ x. leb x maxValue) est ≡ true)
+pub estimate-fits : (t est : List ℕ) → estimateAllowed (variables t) est ≡ true → (length est ≡ variables t) × (all (λ x. leb x maxValue) est ≡ true)
 unfolding estimateAllowed
 estimate-fits t est h =
     let a = and-eq-true-iff (eqb (length est) (variables t)) (all (λ x. leb x maxValue) est) .0 h in
@@ -396,9 +396,9 @@ estimate-fits t est h =
 
 -- Beginning a run
 module _ (t est : List ℕ) (room : ℕ) (h : beginRefusal t est room ≡ 0) where
-  pub begin-tests : Passed ((notATable, isTable t) ∷ (estimateNotAllowed, estimateAllowed t est) ∷ (bufferTooShort, leb recordLength room) ∷ [])
+  pub begin-tests : Passed ((notATable, isTable t) ∷ (estimateNotAllowed, estimateAllowed (variables t) est) ∷ (bufferTooShort, leb recordLength room) ∷ [])
   unfolding beginRefusal
-  begin-tests = none-fails ((notATable, isTable t) ∷ (estimateNotAllowed, estimateAllowed t est) ∷ (bufferTooShort, leb recordLength room) ∷ []) refl h
+  begin-tests = none-fails ((notATable, isTable t) ∷ (estimateNotAllowed, estimateAllowed (variables t) est) ∷ (bufferTooShort, leb recordLength room) ∷ []) refl h
 
   -- what a record holds at the beginning
   pub begun-fits : length (fresh t 0) ≡ parts t → Fits t 0 est (replicate (clocks t) 0) (replicate (clocks t) 0) (fresh t 0)

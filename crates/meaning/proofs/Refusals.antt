@@ -42,7 +42,7 @@ settle-list t r est =
     ∷ (recordNotAllowed, recordAllowed t r)
     ∷ (runFinished, not (eqb (phaseOf r) finished))
     ∷ (wrongPhase, not (eqb (phaseOf r) waiting))
-    ∷ (estimateNotAllowed, estimateAllowed t est)
+    ∷ (estimateNotAllowed, estimateAllowed (variables t) est)
     ∷ (nothingAtWork, rootEnded (settledMarks t r est) || worksFrom t 0 (settledMarks t r est))
     ∷ []
 

@@ -147,8 +147,8 @@ abbrev pub situation : List ℕ → List ℕ → List ℕ → ℕ → Situation
 situation t r est time = record { estimate = est; started = startedIn t r; starts = startsIn t r; time = time }
 
 -- "estimate not V bytes, or one above 250" (refusal 13)
-unfoldable pub estimateAllowed : List ℕ → List ℕ → Bool
-estimateAllowed t est = eqb (length est) (variables t) && all (λ x. leb x maxValue) est
+unfoldable pub estimateAllowed : ℕ → List ℕ → Bool
+estimateAllowed v est = eqb (length est) v && all (λ x. leb x maxValue) est
 
 -- Beginning a run: "phase 0, last time 0, no clock started, the estimate stored, the root initialised"
 unfoldable pub freshRecord : List ℕ → List ℕ → List ℕ
@@ -156,7 +156,7 @@ freshRecord t est = recordBytes waiting 0 est (replicate (clocks t) 0) (replicat
 
 -- "Beginning 9, 13, 8"
 unfoldable pub beginRefusal : List ℕ → List ℕ → ℕ → ℕ
-beginRefusal t est room = firstFailing ((notATable, isTable t) ∷ (estimateNotAllowed, estimateAllowed t est) ∷ (bufferTooShort, leb recordLength room) ∷ [])
+beginRefusal t est room = firstFailing ((notATable, isTable t) ∷ (estimateNotAllowed, estimateAllowed (variables t) est) ∷ (bufferTooShort, leb recordLength room) ∷ [])
 
 unfoldable pub begunInto : List ℕ → List ℕ → List ℕ → List ℕ
 begunInto t est r = cond (eqb (beginRefusal t est (length r)) 0) (sets r 0 (freshRecord t est)) r
@@ -210,7 +210,7 @@ settleRefusal t r est =
     ∷ (recordNotAllowed, recordAllowed t r)
     ∷ (runFinished, not (eqb (phaseOf r) finished))
     ∷ (wrongPhase, not (eqb (phaseOf r) waiting))
-    ∷ (estimateNotAllowed, estimateAllowed t est)
+    ∷ (estimateNotAllowed, estimateAllowed (variables t) est)
     ∷ (nothingAtWork, rootEnded (settledMarks t r est) || worksFrom t 0 (settledMarks t r est))
     ∷ [])
 

@@ -70,11 +70,11 @@ module _ (t r : List ℕ) (v k n v₁ k₁ n₁ : ℕ) (v₁-is : v₁ ≡ varia
 
 -- an estimate, at the number of variables that was read, as a byte and then as a number that indexes
 module _ (t est : List ℕ) (v v₁ : ℕ) (v₁-is : v₁ ≡ variables t) (v-is : v ≡ v₁) where
-  pub estimate-other : (length est ≡ v → ⊥) → false ≡ estimateAllowed t est
+  pub estimate-other : (length est ≡ v → ⊥) → false ≡ estimateAllowed (variables t) est
   unfolding estimateAllowed
   estimate-other h = rw (ne-eqb (length est) (variables t) (λ e. h (e ∙ sym (v-is ∙ v₁-is))))
 
-  pub estimate-made : (b : Bool) → length est ≡ v → b ≡ allFrom (atMost est maxValue) 0 (v - 0) → b ≡ estimateAllowed t est
+  pub estimate-made : (b : Bool) → length est ≡ v → b ≡ allFrom (atMost est maxValue) 0 (v - 0) → b ≡ estimateAllowed (variables t) est
   unfolding estimateAllowed
   estimate-made b h b-is =
       rw (b-is, sub-zero, at-most-bytes est maxValue 0 v, ← h, bytes-all est, eq-eqb (length est) (variables t) (h ∙ v-is ∙ v₁-is))

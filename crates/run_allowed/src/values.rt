@@ -24,6 +24,7 @@ ghost use Prim.Native.Nat.{_-_, _<_, _≤_};
 ghost use lib.ListN.{length};
 ghost use Rattle.base.specs.Lists.{all, allFrom, bytesAt};
 ghost use Rattle.meaning.specs.Sizes.{maxClocks};
+ghost use Rattle.meaning.specs.Program.{variables};
 ghost use Rattle.meaning.specs.Table.{isTable};
 ghost use Rattle.meaning.specs.Record.{recordLength, isZero, restZero, valuesAllowed, clocksAllowed};
 ghost use Rattle.meaning.specs.Cycle.{estimateAllowed};
@@ -83,7 +84,7 @@ pub fn values_allowed(t: &[u8], r: &[u8]) -> bool
 
 // Whether the estimate has a value for each of the program's variables, and none too large (13).
 pub fn estimate_allowed(t: &[u8], est: &[u8]) -> bool
-    ensures { λ b. ⌜ b ≡ estimateAllowed (now (t .entry)) (now (est .entry)) ⌝ }
+    ensures { λ b. ⌜ b ≡ estimateAllowed (variables (now (t .entry))) (now (est .entry)) ⌝ }
 {
     let v = wide(variables(t));
     if est.len() != v {

@@ -84,7 +84,7 @@ module _ (t est r : List ℕ) where
     unfolding beginRefusal
     begin-no-table d = refused notATable (rw (sym b-is ∙ not-true b d)) (λ e. omega arith)
 
-    module _ (c : Bool) (d : not b ≡ false) (c-is : c ≡ estimateAllowed t est) where
+    module _ (c : Bool) (d : not b ≡ false) (c-is : c ≡ estimateAllowed (variables t) est) where
       pub begin-no-estimate : not c ≡ true → Begun t est r 13 r
       unfolding beginRefusal
       begin-no-estimate f = refused estimateNotAllowed (rw (sym b-is ∙ not-false b d, sym c-is ∙ not-true c f)) (λ e. omega arith)

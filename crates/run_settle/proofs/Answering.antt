@@ -43,7 +43,7 @@ module _ (t r est : List ℕ) where
       pub is-waiting : k ≡ waiting → wrongPhase ≡ earlyRefusal t r est
       is-waiting e = sym (then-later ∙ rw (← k-is, e))
 
-      module _ (asked : k ≡ waiting → ⊥) (d : Bool) (d-is : d ≡ estimateAllowed t est) where
+      module _ (asked : k ≡ waiting → ⊥) (d : Bool) (d-is : d ≡ estimateAllowed (variables t) est) where
         pub not-estimate : not d ≡ true → estimateNotAllowed ≡ earlyRefusal t r est
         not-estimate n = sym (then-later ∙ rw (← k-is, ne-eqb k waiting asked, sym d-is ∙ not-true d n))
 
@@ -118,7 +118,7 @@ module _ (t r est : List ℕ) where
     none = not-refused a (settleRefusal t r est) (j .answer-is) done
 
     -- what writing the record asks
-    pub to-commit : (isTable t ≡ true) × ((recordAllowed t r ≡ true) × ((estimateAllowed t est ≡ true) × (bytesAt m 0 (parts t) ≡ settledMarks t r est)))
+    pub to-commit : (isTable t ≡ true) × ((recordAllowed t r ≡ true) × ((estimateAllowed (variables t) est ≡ true) × (bytesAt m 0 (parts t) ≡ settledMarks t r est)))
     unfolding settleRefusal
     to-commit =
         let passed = none-fails (earlyTests t r est ++ lastTest) refl none in

@@ -34,7 +34,7 @@ moved r es fs ss x l =
     ∙ sets-swap (sets (set r 0 x) startedPlace fs) estimatePlace startsPlace es ss (omega arith)
     ∙ ap (λ a. sets a startsPlace ss) (sets-swap (set r 0 x) estimatePlace startedPlace es fs (omega arith))
 
-module _ (t r est m : List ℕ) (table : isTable t ≡ true) (e : estimateAllowed t est ≡ true) (m-is : bytesAt m 0 (parts t) ≡ settledMarks t r est) where
+module _ (t r est m : List ℕ) (table : isTable t ≡ true) (e : estimateAllowed (variables t) est ≡ true) (m-is : bytesAt m 0 (parts t) ≡ settledMarks t r est) where
   root-same : getD m 0 0 ≡ getD (settledMarks t r est) 0 0
   root-same = sym (getD-bytes m 0 (parts t) 0 (root-there t table)) ∙ ap (λ a. getD a 0 0) m-is
 
@@ -67,7 +67,7 @@ pub first-there : (t r s : List ℕ) → recordAllowed t r ≡ true → length s
 first-there t r s allowed same = omega (arith, still-long t r s allowed same)
 
 -- what is copied stands inside, and has room in the record
-pub estimate-fit : (t est : List ℕ) (v w room : ℕ) → isTable t ≡ true → estimateAllowed t est ≡ true → v ≡ variables t → w ≡ v → recordLength ≤ room → (0 + w ≤ length est) × (estimatePlace + w ≤ room)
+pub estimate-fit : (t est : List ℕ) (v w room : ℕ) → isTable t ≡ true → estimateAllowed (variables t) est ≡ true → v ≡ variables t → w ≡ v → recordLength ≤ room → (0 + w ≤ length est) × (estimatePlace + w ≤ room)
 estimate-fit t est v w room table e v-is w-is long =
     let x = table-held t table in
     (omega (arith, estimate-fits t est e .0), omega (arith, x .1 .within .variables-fit))

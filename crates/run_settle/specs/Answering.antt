@@ -5,7 +5,7 @@ use mathlib.Core.Bool.{Bool, not}
 use mathlib.Core.List.{List, [], _∷_, _++_}
 use lib.Dec.{eqb}
 use Rattle.base.specs.Lists.{firstFailing, bytesAt}
-use Rattle.meaning.specs.Program.{parts}
+use Rattle.meaning.specs.Program.{parts, variables}
 use Rattle.meaning.specs.Record.{phaseOf, waiting}
 use Rattle.meaning.specs.Cycle.{estimateAllowed, settledMarks, settleRefusal}
 use Rattle.meaning.specs.Answers.{wrongPhase, estimateNotAllowed}
@@ -13,7 +13,7 @@ use Rattle.run_allowed.specs.Running.{runTests}
 
 -- the tests that need no marks: those of every run, then 11 and 13
 abbrev pub laterTests : List ℕ → List ℕ → List ℕ → List (ℕ × Bool)
-laterTests t r est = (wrongPhase, not (eqb (phaseOf r) waiting)) ∷ (estimateNotAllowed, estimateAllowed t est) ∷ []
+laterTests t r est = (wrongPhase, not (eqb (phaseOf r) waiting)) ∷ (estimateNotAllowed, estimateAllowed (variables t) est) ∷ []
 
 abbrev pub earlyTests : List ℕ → List ℕ → List ℕ → List (ℕ × Bool)
 earlyTests t r est = runTests t r ++ laterTests t r est

@@ -30,7 +30,7 @@ ghost use Prim.Native.Nat.{_≤_};
 ghost use lib.ListN.{length};
 ghost use Rattle.base.specs.Lists.{bytesAt};
 ghost use Rattle.meaning.specs.Sizes.{maxParts};
-ghost use Rattle.meaning.specs.Program.{parts};
+ghost use Rattle.meaning.specs.Program.{parts, variables};
 ghost use Rattle.meaning.specs.Table.{isTable};
 ghost use Rattle.meaning.specs.Record.{recordAllowed, waiting, finished};
 ghost use Rattle.meaning.specs.Cycle.{estimateAllowed, rootEnded, settledMarks, settledRecord};
@@ -89,7 +89,7 @@ fn commit(t: &[u8], r: &mut [u8], est: &[u8], m: &[u8])
     requires { ⌜ isTable (now t) ≡ true ⌝ }
     requires { ⌜ recordAllowed (now t) (now r) ≡ true ⌝ }
     requires { ⌜ parts (now t) ≤ length (now m) ⌝ }
-    requires { ⌜ estimateAllowed (now t) (now est) ≡ true ⌝ }
+    requires { ⌜ estimateAllowed (variables (now t)) (now est) ≡ true ⌝ }
     requires { ⌜ bytesAt (now m) 0 (parts (now t)) ≡ settledMarks (now t) (now r) (now est) ⌝ }
     ensures { λ _. ⌜ now (r .exit) ≡ settledRecord (now (t .entry)) (now (r .entry)) (now (est .entry)) ⌝ }
 {
