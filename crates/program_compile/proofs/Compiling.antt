@@ -18,7 +18,7 @@ use Rattle.meaning.specs.Sizes.{noPart, headerLength, lengthOf, bytesAt}
 use Rattle.meaning.specs.Tree.{Part, size}
 use Rattle.meaning.specs.Program.{parts, variables, clocks, sizeBytes, entries, isTree, programRefusal, operandBytes, entryAt, entriesFrom}
 use Rattle.meaning.specs.Table.{Row, linkBytes, rowBytes, block, tableOf, compiled, readRefusal, readInto}
-use Rattle.meaning.specs.Answers.{answerNumber}
+use Rattle.meaning.specs.Answers.{answerNumber, bufferTooShort}
 use Rattle.meaning.proofs.Answers.{is-refused}
 use Rattle.meaning.proofs.Files.{Holds, accepted, sizes-back}
 use Rattle.meaning.proofs.Tables.{rows-entries, compiled-is, rowEntry}
@@ -92,10 +92,10 @@ module _ (f out : List ℕ) where
       (rw (ne-eqb (answerNumber a) 0 (is-refused a r (answerNumber a) refl d)))
 
   module _ (n m : ℕ) (h : programRefusal File f ≡ 0) (n-is : n ≡ parts f) (m-is : m ≡ lengthOf Table n) where
-    pub read-short : length out < m → Read 8 out
+    pub read-short : length out < m → Read bufferTooShort out
     unfolding readRefusal readInto
     read-short l =
-        effect 8 (readRefusal f (length out)) (sets out 0 (compiled File f)) out out
+        effect bufferTooShort (readRefusal f (length out)) (sets out 0 (compiled File f)) out out
         (rw (h, lt-leb (lengthOf Table (parts f)) (length out) (omega (arith, m-is ∙ ap (lengthOf Table) n-is))))
         refl
 

@@ -14,6 +14,7 @@ use Rattle.meaning.specs.declared.Form.the-variants.{File, Table}
 use Rattle.meaning.specs.Sizes.{headerLength, lengthOf, bytesAt}
 use Rattle.meaning.specs.Program.{parts, entries, kindByte, entryOperand, arrays}
 use Rattle.meaning.specs.Table.{fileIn, isTable, writeRefusal, writtenInto}
+use Rattle.meaning.specs.Answers.{bufferTooShort, notATable}
 use Rattle.meaning.proofs.Files.{length-entries}
 use Rattle.meaning.proofs.Tables.{table-held}
 use Rattle.meaning.proofs.Refusals.{effect}
@@ -39,15 +40,15 @@ module _ (t out : List ℕ) (b : Bool) (b-is : b ≡ isTable t) where
   abbrev Written : ℕ → List ℕ → Type 0
   Written n out₁ = (n ≡ writeRefusal t (length out)) × (out₁ ≡ writtenInto t out)
 
-  pub write-refused : not b ≡ true → Written 9 out
+  pub write-refused : not b ≡ true → Written notATable out
   unfolding writeRefusal writtenInto
-  write-refused d = effect 9 (writeRefusal t (length out)) (sets out 0 (fileIn t)) out out (rw (sym b-is ∙ not-true b d)) refl
+  write-refused d = effect notATable (writeRefusal t (length out)) (sets out 0 (fileIn t)) out out (rw (sym b-is ∙ not-true b d)) refl
 
   module _ (n m : ℕ) (d : not b ≡ false) (n-is : n ≡ parts t) (m-is : m ≡ lengthOf File n) where
-    pub write-short : length out < m → Written 8 out
+    pub write-short : length out < m → Written bufferTooShort out
     unfolding writeRefusal writtenInto
     write-short l =
-        effect 8 (writeRefusal t (length out)) (sets out 0 (fileIn t)) out out
+        effect bufferTooShort (writeRefusal t (length out)) (sets out 0 (fileIn t)) out out
         (rw (sym b-is ∙ not-false b d, lt-leb (lengthOf File (parts t)) (length out) (omega (arith, m-is ∙ ap (lengthOf File) n-is))))
         refl
 
