@@ -1,5 +1,5 @@
 -- Demand 3: the run by the table and the run by unfolding the tree are alike.
-use Prim.Native.Nat.{ℕ, _+_, _^_, _≤_, _<_}
+use Prim.Native.Nat.{ℕ, _+_, _≤_, _<_}
 use native.Mathlib.Omega.{arith}
 use mathlib.Core.Path.{_≡_, refl, sym, ap, ap₂, _∙_}
 use mathlib.Core.Bool.{Bool, true, false, cond, not, _||_, false≢true}
@@ -14,7 +14,7 @@ use Rattle.base.specs.Lists.{all, firstFailing, bytesAt}
 use Rattle.base.proofs.Lists.{and-left, and-right, cond-map, cond-same, none-fails, all-replicate}
 use Rattle.base.proofs.Stores.{bytes-sets}
 use Rattle.meaning.specs.declared.Form.the-variants.{File}
-use Rattle.meaning.specs.Sizes.{maxValue, noPart, timeWidth, timeLimit}
+use Rattle.meaning.specs.Sizes.{maxValue, noPart, timeLimit}
 use Rattle.meaning.specs.Tree.{Part, size}
 use Rattle.meaning.specs.Program.{variables, clocks, parts, allowedEntry, Within}
 use Rattle.meaning.specs.Table.{tableOf, compiled, isTable}

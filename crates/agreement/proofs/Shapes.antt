@@ -3,12 +3,10 @@ use Prim.Native.Nat.{ℕ, zero, suc, _+_}
 use native.Mathlib.Omega.{arith}
 use mathlib.Core.Path.{_≡_, refl, ap, ap₂, _∙_}
 use mathlib.Core.Logic.{inl, inr}
-use mathlib.Core.Bool.{Bool, true, false, _&&_, _||_, or-assoc}
+use mathlib.Core.Bool.{Bool, true, false, _||_, or-assoc}
 use mathlib.Core.List.{List, [], _∷_, _++_}
 use lib.ListN.{length, drop, length-append, length-drop, length-replicate, replicate-append-replicate}
-use lib.Dec.{leb}
-use Rattle.base.specs.Lists.{all, any}
-use Rattle.base.proofs.Lists.{all-append}
+use Rattle.base.specs.Lists.{any}
 use Rattle.meaning.specs.Tree.{Part, Parts, goal, start, wait, seq, par, maintain, choice, repeat, one, more, size}
 use Rattle.meaning.specs.Record.{isMark}
 use Rattle.meaning.proofs.Trees.{sizes, inner, size-inner}
@@ -76,15 +74,6 @@ length-marks = marks-ind (λ a xs. length xs ≡ a) (record { empty = refl; mark
 -- and for each part inside it
 pub length-inner : (p : Part) (r : Rest p) → length (drop 1 (marksOf p r)) ≡ inner p
 length-inner p r = rw length-drop (omega (arith, length-marks p r, size-inner p))
-
--- each mark is 0 or 1
-pub marks-bits : (p : Part) (r : Rest p) → all (λ b. leb b 1) (marksOf p r) ≡ true
-marks-bits =
-    marks-ind (λ a xs. all (λ b. leb b 1) xs ≡ true) (record { empty = refl; marked = λ e. e; blanks = blank-bits; joined = λ {a} {b} {xs} {ys} e d. all-append (λ b. leb b 1) xs ys ∙ ap₂ _&&_ e d })
-  where
-    blank-bits : (a : ℕ) → all (λ b. leb b 1) (blank a) ≡ true
-    blank-bits zero = refl
-    blank-bits (suc a) = blank-bits a
 
 -- blanks one after the other
 pub blank-both : (a b : ℕ) → blank a ++ blank b ≡ blank (a + b)

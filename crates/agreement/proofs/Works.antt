@@ -133,10 +133,6 @@ module _ (s : Situation) where
     running-holding (more p ps) (that c) = remains-map (HoldingRunning ps) (HoldingRunning (more p ps)) that (λ a h. h) (settleRunning s ps c) (running-holding ps c)
     running-holding (more p ps) (both r c) = remains-both p ps (settle s p r) (settleRunning s ps c) (settle-holding p r) (running-holding ps c)
 
-  -- so what remains after it holds
-  pub settled-holding : (p : Part) (r a : Rest p) → settle s p r ≡ some a → Holding p a
-  settled-holding p r a e = rw e at (settle-holding p r)
-
 -- a leaf or a deciding CHOICE is marked in the marks xs from number n on, whatever follows
 pub record Works (t : List ℕ) (n : ℕ) (xs : List ℕ) : Type 0 where
   pub works : (ms : List ℕ) → worksFrom t n (xs ++ ms) ≡ true

@@ -138,6 +138,11 @@ module _ {A : Type 0} (f : ℕ → A) where
       let first : t (f i) ≡ true = rw add-zero at (h 0 (omega arith)) in
       rw first (all-tabulate t (suc i) n (λ c l. rw (suc-add, ← add-suc) (h (suc c) (omega arith))))
 
+  pub each-tabulated : (t : A → Bool) (i n : ℕ) → all t (tabulate f i n) ≡ true → (c : ℕ) → c < n → t (f (i + c)) ≡ true
+  each-tabulated t i zero h c l = absurd (not-suc-le-zero l)
+  each-tabulated t i (suc n) h zero l = rw add-zero (and-left (t (f i)) (all t (tabulate f (suc i) n)) h)
+  each-tabulated t i (suc n) h (suc c) l = rw (add-suc, ← suc-add) (each-tabulated t (suc i) n (and-right (t (f i)) (all t (tabulate f (suc i) n)) h) c (le-of-suc-le-suc l))
+
 -- where a test fails of some, it fails of one; where it passes of all, it passes of each
 pub fails-of-one : (f : ℕ → Bool) (xs : List ℕ) → all f xs ≡ false → (i : ℕ) × (i < length xs) × (f (getD xs i 0) ≡ false)
 fails-of-one f [] h = let z : _≡_ {A = ℕ} 0 1 = cc in (0, omega arith, cc)

@@ -39,9 +39,6 @@ pub sets-inside : (l : List ℕ) (i k : ℕ) (xs ys : List ℕ) → k + length y
 sets-inside l i k xs [] h = refl
 sets-inside l i k xs (y ∷ ys) h = rw (set-inside l i k y xs (omega arith), ← add-suc) (sets-inside l i (suc k) (set xs k y) ys (rw length-set (omega arith)))
 
-pub sets-three : (l : List ℕ) (i j k : ℕ) (xs ys zs : List ℕ) → i + length xs ≡ j → j + length ys ≡ k → sets (sets (sets l i xs) j ys) k zs ≡ sets l i (xs ++ (ys ++ zs))
-sets-three l i j k xs ys zs e d = sets-append (sets l i xs) j k ys zs d ∙ sets-append l i j xs (ys ++ zs) e
-
 pub length-bytes : (s : List ℕ) (k n : ℕ) → length (bytesAt s k n) ≡ n
 length-bytes s k zero = refl
 length-bytes s k (suc n) = ap suc (length-bytes s (suc k) n)

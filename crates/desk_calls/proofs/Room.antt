@@ -10,7 +10,6 @@ use Rattle.base.specs.Lists.{nonempty, same}
 use Rattle.base.proofs.Stores.{sets-start}
 use Rattle.desk_parse.specs.declared.Numeral.{Numeral}
 use Rattle.desk_parse.specs.declared.Numeral.the-variants.{Value, NoNumber}
-use Rattle.desk_parse.specs.declared.Pairs.{Pairs}
 use Rattle.desk_parse.specs.declared.Pairs.the-variants.{Whole, Broken}
 use Rattle.desk_parse.specs.Words.{isSpace, isOther, isPair, pairByte, leading, trimmed, wordOf, restOf, pairBytes, pairsOnly, pairsOf, numeralOf}
 use Rattle.desk_calls.specs.declared.Line.{Line}

@@ -1,40 +1,30 @@
 -- What the entries of a table satisfy, and the goal bytes that they give.
-use Prim.Native.Nat.{ℕ, zero, suc, _+_, _≤_, _<_}
-use native.Mathlib.Nat.{zero-add, add-zero, add-suc, suc-add}
-use native.Mathlib.Omega.{arith}
+use Prim.Native.Nat.{ℕ, _≤_, _<_}
+use native.Mathlib.Nat.{zero-add}
 use mathlib.Core.Path.{_≡_, ap, _∙_}
-use mathlib.Core.Bool.{Bool, true, _&&_}
+use mathlib.Core.Bool.{true, _&&_}
 use mathlib.Core.Logic.{_⊎_, inl, inr}
 use mathlib.Core.List.{List}
 use lib.Dec.{eqb, leb, ltb}
 use lib.ListN.{length, getD}
 use borrow.Author.Tests.{eqb-true, leb-true, ltb-true}
-use Rattle.base.specs.Lists.{all}
-use Rattle.base.proofs.Lists.{and-left, and-right, length-tabulate, getD-tabulate}
+use Rattle.base.proofs.Lists.{and-left, and-right, length-tabulate, getD-tabulate, each-tabulated}
 use Rattle.meaning.specs.declared.Operand.{Operand}
 use Rattle.meaning.specs.declared.Entry.{Entry}
 use Rattle.meaning.specs.declared.Form.the-variants.{Table}
 use Rattle.meaning.specs.Sizes.{maxValue}
 use Rattle.meaning.specs.Kinds.{GOAL, START, kindOf, numberOf, value, testOf, testAllowed, conditionAllowed, goalAllowed, startAllowed, operandAllowed}
-use Rattle.meaning.specs.Program.{parts, variables, clocks, entryAt, entriesFrom, entries, allowedEntry}
+use Rattle.meaning.specs.Program.{parts, variables, clocks, entryAt, entries, allowedEntry}
 use Rattle.meaning.specs.Table.{isTable}
 use Rattle.meaning.specs.Cycle.{isKind, valuesFor, goalByte, goalBytes}
 use Rattle.meaning.proofs.Tables.{table-held}
-
--- a test that all entries pass, each part's entry passes
-entry-passes : (f : Entry → Bool) (t : List ℕ) (n m i : ℕ) → all f (entriesFrom Table t n m) ≡ true → i < m → f (entryAt Table t (n + i)) ≡ true
-unfolding entriesFrom
-entry-passes f t n zero i h l = absurd (omega arith)
-entry-passes f t n (suc m) zero h l = rw add-zero (and-left (f (entryAt Table t n)) (all f (entriesFrom Table t (suc n) m)) h)
-entry-passes f t n (suc m) (suc i) h l =
-    rw (add-suc n i, ← (suc-add n i)) (entry-passes f t (suc n) m i (and-right (f (entryAt Table t n)) (all f (entriesFrom Table t (suc n) m)) h) (omega arith))
 
 -- each entry of a table is allowed
 pub entry-allowed : (t : List ℕ) → isTable t ≡ true → (p : ℕ) → p < parts t → allowedEntry (variables t) (clocks t) (entryAt Table t p) ≡ true
 unfolding entries
 entry-allowed t h p l =
     let (q, held, e) = table-held t h in
-    rw zero-add at (entry-passes (allowedEntry (variables t) (clocks t)) t 0 (parts t) p (rw (held .entries-are) (held .within .entries-allowed)) l)
+    rw zero-add at (each-tabulated (entryAt Table t) (allowedEntry (variables t) (clocks t)) 0 (parts t) (rw (held .entries-are) (held .within .entries-allowed)) p l)
 
 -- so is what is read as the entry of a part
 pub read-allowed : (t : List ℕ) (p : ℕ) (e : Entry) → isTable t ≡ true → p < parts t → e ≡ entryAt Table t p → allowedEntry (variables t) (clocks t) e ≡ true

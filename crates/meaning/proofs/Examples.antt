@@ -11,7 +11,7 @@ use Rattle.meaning.specs.declared.Outcome.{Outcome}
 use Rattle.meaning.specs.declared.Outcome.the-variants.{Satisfied, Violated, Open}
 use Rattle.meaning.specs.Kinds.{kindOf, numberOf, known, arity, testOf, testAllowed, conditionAllowed, goalAllowed, startAllowed, countAllowed, emptyAllowed, operandAllowed}
 use Rattle.meaning.specs.Tree.{fold, depth, size}
-use Rattle.meaning.specs.Program.{sizesAllowed, entriesFrom, entries, preorder, knownEntry, allowedEntry, arityOf, make, place, trees, treeOf, programRefusal}
+use Rattle.meaning.specs.Program.{sizesAllowed, entries, preorder, knownEntry, allowedEntry, arityOf, make, place, trees, treeOf, programRefusal}
 use Rattle.meaning.specs.Conditions.{Situation, outcome}
 use Rattle.meaning.specs.Table.{nextOf, block, tableOf, compiled, readRefusal}
 
@@ -41,7 +41,7 @@ reads =
     ∷ []
 
 examples : all agrees reads ≡ true
-unfolding reads agrees repeats kindOf numberOf known arity testOf testAllowed conditionAllowed goalAllowed startAllowed countAllowed emptyAllowed operandAllowed fold depth size sizesAllowed entriesFrom entries preorder knownEntry allowedEntry arityOf make place trees treeOf programRefusal readRefusal
+unfolding reads agrees repeats kindOf numberOf known arity testOf testAllowed conditionAllowed goalAllowed startAllowed countAllowed emptyAllowed operandAllowed fold depth size sizesAllowed entries preorder knownEntry allowedEntry arityOf make place trees treeOf programRefusal readRefusal
 examples = refl
 
 file10 : List ℕ
@@ -51,7 +51,7 @@ table10 : List ℕ
 table10 = 3 ∷ 1 ∷ 1 ∷ 4 ∷ 3 ∷ 255 ∷ 255 ∷ 2 ∷ 0 ∷ 0 ∷ 0 ∷ 2 ∷ 2 ∷ 0 ∷ 2 ∷ 0 ∷ 0 ∷ 0 ∷ 0 ∷ 3 ∷ 3 ∷ 0 ∷ 255 ∷ 3 ∷ 0 ∷ 10 ∷ 0 ∷ []
 
 station10 : compiled File file10 ≡ table10
-unfolding file10 table10 kindOf numberOf known arity fold depth size entriesFrom entries preorder arityOf make place trees treeOf nextOf block tableOf compiled
+unfolding file10 table10 kindOf numberOf known arity fold depth size entries preorder arityOf make place trees treeOf nextOf block tableOf compiled
 station10 = refl
 
 -- Conditions at their bounds, by an estimate of 1, a clock that reads 5, and one that is not started

@@ -11,15 +11,15 @@ use lib.Dec.{leb}
 use lib.ListN.{length, getD, length-append, List·getD-append}
 use lib.Seq.{getD-append-add}
 use borrow.Author.Tests.{leb-true, le-leb, eqb-true, eq-eqb}
-use Rattle.base.specs.Lists.{flat, all}
-use Rattle.base.proofs.Lists.{all-append, length-pieces, piece-at, Passed, none-fails, passed}
+use Rattle.base.specs.Lists.{flat, all, tabulate}
+use Rattle.base.proofs.Lists.{all-append, length-pieces, length-tabulate, piece-at, Passed, none-fails, passed}
 use Rattle.base.proofs.Stores.{bytes-all}
 use Rattle.meaning.specs.declared.Entry.{Entry}
 use Rattle.meaning.specs.declared.Form.{Form}
 use Rattle.meaning.specs.declared.Form.the-variants.{File, Table}
 use Rattle.meaning.specs.Sizes.{maxParts, maxVariables, maxClocks, maxDepth, headerLength, operandLength, lengthOf, operandPlace, noPart, numberBytes, numberAt, bytesAt}
 use Rattle.meaning.specs.Tree.{Part, kind, children, depth, size}
-use Rattle.meaning.specs.Program.{parts, variables, clocks, sizeBytes, sizesAllowed, entryAt, entriesFrom, entries, preorder, knownEntry, allowedEntry, follow, trees, single, treeOf, isTree, programTests, programRefusal, Within, kindByte, entryOperand, arrays, fileOf}
+use Rattle.meaning.specs.Program.{parts, variables, clocks, sizeBytes, sizesAllowed, entryAt, entries, preorder, knownEntry, allowedEntry, follow, trees, single, treeOf, isTree, programTests, programRefusal, Within, kindByte, entryOperand, arrays, fileOf}
 use Rattle.meaning.proofs.Trees.{All, part-ind, size-law, preorder-law, entryOf, length-preorder}
 use Rattle.meaning.proofs.Parsing.{kind-number, known-kind, trees-alone, trees-are}
 
@@ -42,16 +42,11 @@ single-part (some []) p h = absurd (Option·none-ne-some p h)
 single-part (some (q ∷ [])) p h = cc
 single-part (some (q ∷ r ∷ ps)) p h = absurd (Option·none-ne-some p h)
 
-length-entries-from : (form : Form) (s : List ℕ) (p n : ℕ) → length (entriesFrom form s p n) ≡ n
-unfolding entriesFrom
-length-entries-from form s p zero = refl
-length-entries-from form s p (suc n) = ap suc (length-entries-from form s (suc p) n)
-
 module _ (form : Form) (s : List ℕ) where
   -- as many entries as parts
   pub length-entries : length (entries form s) ≡ parts s
   unfolding entries
-  length-entries = length-entries-from form s 0 (parts s)
+  length-entries = length-tabulate (entryAt form s) 0 (parts s)
 
   tests-pass : programRefusal form s ≡ 0 → Passed (programTests form s)
   unfolding programRefusal
@@ -164,8 +159,7 @@ pub past-header : (h x : List ℕ) (m : ℕ) → length h ≡ headerLength → g
 past-header h x m l = rw (← l) (getD-append-add h x m 0)
 
 module _ (form : Form) (s : List ℕ) (d : Entry) where
-  entries-from : (es : List Entry) (p : ℕ) → ((i : ℕ) → i < length es → entryAt form s (p + i) ≡ getD es i d) → entriesFrom form s p (length es) ≡ es
-  unfolding entriesFrom
+  entries-from : (es : List Entry) (p : ℕ) → ((i : ℕ) → i < length es → entryAt form s (p + i) ≡ getD es i d) → tabulate (entryAt form s) p (length es) ≡ es
   entries-from [] p at = refl
   entries-from (e ∷ es) p at =
       let first : entryAt form s p ≡ e = rw add-zero at (at 0 (omega arith)) in
@@ -248,8 +242,7 @@ bytes-append s i (suc a) b = rw (suc-add, bytes-append s (suc i) a b, suc-add, �
 
 -- a list cut into pieces of one width is those pieces one after the other
 module _ (form : Form) (s : List ℕ) (g : Entry → List ℕ) (w a : ℕ) (cut : (q : ℕ) → g (entryAt form s q) ≡ bytesAt s (a + w * q) w) where
-  pub pieces-back : (p n : ℕ) → flat g (entriesFrom form s p n) ≡ bytesAt s (a + w * p) (w * n)
-  unfolding entriesFrom
+  pub pieces-back : (p n : ℕ) → flat g (tabulate (entryAt form s) p n) ≡ bytesAt s (a + w * p) (w * n)
   pieces-back p zero = rw mul-zero
   pieces-back p (suc n) =
       let e : w * suc n ≡ w + w * n = omega arith in

@@ -100,9 +100,6 @@ rows-law p n q x = rw (← block-parts p, block-law p)
 pub length-preorder : (p : Part) → length (preorder p) ≡ size p
 length-preorder = part-ind (λ p. length (preorder p) ≡ size p) (λ p h. rw (preorder-law p, size-law p, length-flat preorder) (rw (map-all (λ q. length (preorder q)) size (children p) h)))
 
-pub length-flat-preorder : (ps : List Part) → length (flat preorder ps) ≡ sum (map size ps)
-length-flat-preorder ps = length-flat preorder ps ∙ ap sum (map-all (λ q. length (preorder q)) size ps (all-of (λ p. length (preorder p) ≡ size p) length-preorder ps))
-
 -- how many parts stand in parts one after the other
 abbrev pub sizes : Parts → ℕ
 sizes (one p) = size p

@@ -217,6 +217,13 @@ settleRefusal t r est =
 abbrev pub startingLeaves : List ℕ → List ℕ → List Entry
 startingLeaves t r = leavesFrom t 0 (marksIn t r)
 
+-- the clocks' flags and starts that a settling leaves
+abbrev pub settledFlags : List ℕ → List ℕ → List ℕ
+settledFlags t r = clockFlags (clocks t) (startingLeaves t r) (startedIn t r)
+
+abbrev pub settledStarts : List ℕ → List ℕ → List ℕ
+settledStarts t r = clockStarts (clocks t) (startingLeaves t r) (startedIn t r) (startsIn t r) (lastTime r)
+
 abbrev pub settledRecord : List ℕ → List ℕ → List ℕ → List ℕ
 settledRecord t r est =
     sets
@@ -224,9 +231,9 @@ settledRecord t r est =
     (sets
     (sets (set r 0 (cond (rootEnded (settledMarks t r est)) finished waiting)) estimatePlace est)
     startedPlace
-    (clockFlags (clocks t) (startingLeaves t r) (startedIn t r)))
+    (settledFlags t r))
     startsPlace
-    (flat (littleEndian timeWidth) (clockStarts (clocks t) (startingLeaves t r) (startedIn t r) (startsIn t r) (lastTime r))))
+    (flat (littleEndian timeWidth) (settledStarts t r)))
     marksPlace
     (settledMarks t r est)
 

@@ -1,12 +1,12 @@
 -- Program file: what it holds, and which byte lists are one (refusals 1 to 7).
-use Prim.Native.Nat.{ℕ, zero, suc, _+_, _≤_}
+use Prim.Native.Nat.{ℕ, _+_, _≤_}
 use mathlib.Core.Path.{_≡_}
 use mathlib.Core.Bool.{Bool, true, false, cond, _&&_}
 use mathlib.Core.Option.{Option, none, some, Option·map}
 use mathlib.Core.List.{List, [], _∷_, _++_}
 use lib.Dec.{eqb, leb}
 use lib.ListN.{length, getD, take, drop}
-use Rattle.base.specs.Lists.{all, join, flat, firstFailing}
+use Rattle.base.specs.Lists.{all, join, flat, tabulate, firstFailing}
 use Rattle.meaning.specs.declared.Operand.{Operand}
 use Rattle.meaning.specs.declared.Entry.{Entry}
 use Rattle.meaning.specs.declared.Form.{Form}
@@ -38,13 +38,9 @@ operandAt s i = record { b0 = getD s i 0; b1 = getD s (i + 1) 0; b2 = getD s (i 
 abbrev pub entryAt : Form → List ℕ → ℕ → Entry
 entryAt form s p = record { kind = getD s (kindPlace form (parts s) p) 0; operand = operandAt s (operandPlace form (parts s) p) }
 
-unfoldable pub entriesFrom : Form → List ℕ → ℕ → ℕ → List Entry
-entriesFrom form s p zero = []
-entriesFrom form s p (suc n) = entryAt form s p ∷ entriesFrom form s (suc p) n
-
 -- "Parts stand in preorder, numbered from 0"
 unfoldable pub entries : Form → List ℕ → List Entry
-entries form s = entriesFrom form s 0 (parts s)
+entries form s = tabulate (entryAt form s) 0 (parts s)
 
 unfoldable pub preorder : Part → List Entry
 preorder p = fold (λ k o es. record { kind = numberOf k; operand = o } ∷ join es) p

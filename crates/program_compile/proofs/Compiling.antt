@@ -7,7 +7,7 @@ use mathlib.Core.List.{List, [], _∷_, _++_, map}
 use lib.ListN.{length}
 use lib.Seq.{sets}
 use borrow.Author.Tests.{le-leb, lt-leb, ne-eqb}
-use Rattle.base.specs.Lists.{flat}
+use Rattle.base.specs.Lists.{flat, tabulate}
 use Rattle.base.proofs.Stores.{sets-append}
 use Rattle.meaning.specs.declared.Form.{Form}
 use Rattle.meaning.specs.declared.Form.the-variants.{File, Table}
@@ -16,7 +16,7 @@ use Rattle.meaning.specs.declared.Answer.{Answer}
 use Rattle.meaning.specs.declared.Answer.the-variants.{Refused}
 use Rattle.meaning.specs.Sizes.{noPart, headerLength, lengthOf, bytesAt}
 use Rattle.meaning.specs.Tree.{Part, size}
-use Rattle.meaning.specs.Program.{parts, variables, clocks, sizeBytes, entries, isTree, programRefusal, operandBytes, entryAt, entriesFrom}
+use Rattle.meaning.specs.Program.{parts, variables, clocks, sizeBytes, entries, isTree, programRefusal, operandBytes, entryAt}
 use Rattle.meaning.specs.Table.{Row, linkBytes, rowBytes, block, tableOf, compiled, readRefusal, readInto}
 use Rattle.meaning.specs.Answers.{answerNumber, bufferTooShort}
 use Rattle.meaning.proofs.Answers.{is-refused}
@@ -29,14 +29,14 @@ use Rattle.meaning.specs.declared.Entry.{Entry}
 use Rattle.meaning.proofs.Refusals.{effect}
 
 -- The rows that the code writes are the rows of the table, where the entries are theirs
-held-rows : (s : List ℕ) (rows : List Row) (q n : ℕ) → map rowEntry rows ≡ entriesFrom File s q n → heldRows s q rows ≡ flat rowBytes rows
-unfolding heldRows entriesFrom
+held-rows : (s : List ℕ) (rows : List Row) (q n : ℕ) → map rowEntry rows ≡ tabulate (entryAt File s) q n → heldRows s q rows ≡ flat rowBytes rows
+unfolding heldRows
 held-rows s [] q zero d = refl
 held-rows s [] q (suc n) d = cc
 held-rows s (r ∷ rs) q zero d = cc
 held-rows s (r ∷ rs) q (suc n) d =
     let first : rowEntry r ≡ entryAt File s q = cc in
-    let later : map rowEntry rs ≡ entriesFrom File s (suc q) n = cc in
+    let later : map rowEntry rs ≡ tabulate (entryAt File s) (suc q) n = cc in
     ap₂ (λ (a b : List ℕ). a ++ b) (ap (λ (x : Entry). x .kind ∷ (linkBytes r ++ operandBytes (x .operand))) (sym first)) (held-rows s rs (suc q) n later)
 
 -- An accepted program has one tree

@@ -328,10 +328,6 @@ module _ (s : List ℕ) (k : Kind) (n q due : ℕ) (out whole : List ℕ) (end :
               (there-kept out (headerLength + rowLength * (q + size (child .part))) (row + parentPlace) (n % byteValues) (forestRows s (q + size (child .part)) others) (omega (arith, size-law (child .part))) others-there);
         })
 
-    -- its end lies beyond it, and not beyond the last part
-    pub link-further : (q < e) × (e ≤ parts s)
-    link-further = (omega (arith, e-is, end-is, size-law (child .part)), omega (arith, e-is, end-is, whole-end))
-
 -- After the loop the part's own row is stored
 pub row-done : (s : List ℕ) (k : Kind) (n q due : ℕ) (out₀ out out₁ : List ℕ) (part : Entry) → Rowing s k n q due out (written s n out₀) (endOf s n) → due ≤ 0 → part ≡ entryAt File s n
     → out₁ ≡ sets out (headerLength + rowLength * n) (entryRow part q noPart noPart) → out₁ ≡ rowWritten s n out₀

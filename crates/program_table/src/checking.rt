@@ -19,7 +19,7 @@ use program_part::kinds::children_of;
 use program_rows::rows::next_of;
 use program_walk::walker::entry_at;
 ghost use mathlib.Core.Path.{_≡_};
-ghost use Prim.Native.Nat.{_+_, _*_, _<_, _≤_};
+ghost use Prim.Native.Nat.{_+_, _<_, _≤_};
 ghost use lib.ListN.{length};
 ghost use Rattle.meaning.specs.declared.Form.the-variants.{Table};
 ghost use Rattle.meaning.specs.Sizes.{rowLength, lengthOf};

@@ -1,22 +1,21 @@
 -- The entries of a program one by one.
 use Prim.Native.Nat.{ℕ, zero, suc, _+_, _<_, _≤_}
-use mathlib.Core.Path.{_≡_, refl}
+use mathlib.Core.Path.{_≡_}
 use mathlib.Core.Bool.{Bool, true}
 use mathlib.Core.List.{List, [], _∷_}
 use native.Mathlib.Nat.{add-zero, zero-add}
 use native.Mathlib.Numerals.{add-one}
 use native.Mathlib.Omega.{arith}
 use lib.ListN.{drop, drop-of-length-le}
-use Rattle.base.specs.Lists.{all}
-use Rattle.base.proofs.Lists.{and-left, and-right}
+use Rattle.base.specs.Lists.{all, tabulate}
+use Rattle.base.proofs.Lists.{all-tabulate, each-tabulated}
 use Rattle.meaning.specs.declared.Entry.{Entry}
 use Rattle.meaning.specs.declared.Form.{Form}
-use Rattle.meaning.specs.Program.{parts, entryAt, entriesFrom, entries}
+use Rattle.meaning.specs.Program.{parts, entryAt, entries}
 use Rattle.meaning.proofs.Files.{length-entries}
 
 module _ (form : Form) (s : List ℕ) where
-  from-at : (q n p : ℕ) → p < n → drop p (entriesFrom form s q n) ≡ entryAt form s (q + p) ∷ drop (suc p) (entriesFrom form s q n)
-  unfolding entriesFrom
+  from-at : (q n p : ℕ) → p < n → drop p (tabulate (entryAt form s) q n) ≡ entryAt form s (q + p) ∷ drop (suc p) (tabulate (entryAt form s) q n)
   from-at q zero p h = absurd (omega arith)
   from-at q (suc n) zero h = rw (add-zero q)
   from-at q (suc n) (suc p) h = let k : q + suc p ≡ suc q + p = omega arith in rw k (from-at (suc q) n p (omega arith))
@@ -37,23 +36,10 @@ module _ (form : Form) (s : List ℕ) where
 
   -- what holds of each entry holds of all, and the other way round
   module _ (f : Entry → Bool) where
-    all-from : (q n : ℕ) → ((p : ℕ) → q ≤ p → p < q + n → f (entryAt form s p) ≡ true) → all f (entriesFrom form s q n) ≡ true
-    unfolding entriesFrom
-    all-from q zero h = refl
-    all-from q (suc n) h = rw (h q (omega arith) (omega arith)) (all-from (suc q) n (λ p l b. h p (omega arith) (omega arith)))
-
     pub all-entries : ((p : ℕ) → p < parts s → f (entryAt form s p) ≡ true) → all f (entries form s) ≡ true
     unfolding entries
-    all-entries h = all-from 0 (parts s) (λ p l b. h p (omega arith))
-
-    each-from : (q n : ℕ) → all f (entriesFrom form s q n) ≡ true → (i : ℕ) → i < n → f (entryAt form s (q + i)) ≡ true
-    unfolding entriesFrom
-    each-from q zero h i b = absurd (omega arith)
-    each-from q (suc n) h zero b = rw (add-zero q) (and-left (f (entryAt form s q)) (all f (entriesFrom form s (suc q) n)) h)
-    each-from q (suc n) h (suc i) b =
-        let k : q + suc i ≡ suc q + i = omega arith in
-        rw k (each-from (suc q) n (and-right (f (entryAt form s q)) (all f (entriesFrom form s (suc q) n)) h) i (omega arith))
+    all-entries h = all-tabulate (entryAt form s) f 0 (parts s) (λ p l. rw zero-add (h p l))
 
     pub each-entry : all f (entries form s) ≡ true → (p : ℕ) → p < parts s → f (entryAt form s p) ≡ true
     unfolding entries
-    each-entry h p b = rw zero-add at (each-from 0 (parts s) h p b)
+    each-entry h p b = rw zero-add at (each-tabulated (entryAt form s) f 0 (parts s) h p b)

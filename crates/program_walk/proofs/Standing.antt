@@ -156,8 +156,5 @@ alone form s t =
     let p = some-part (treeOf form s) t in
     record { part = p .0; tree = p .1; is = single-part (trees (entries form s)) (p .0) (p .1) }
 
-pub alone-stands : (form : Form) (s : List ℕ) → Alone form s → Stands (entries form s) 0
-alone-stands form s a = record { part = a .part; later = []; is = a .is }
-
 pub alone-part : (form : Form) (s : List ℕ) → Alone form s → treeOf form s ≡ some (partAt (entries form s) 0)
 alone-part form s a = a .tree ∙ ap some (sym (part-is (entries form s) 0 (a .part) [] (a .is)))

@@ -20,11 +20,11 @@ use Rattle.meaning.specs.Kinds.{GOAL, START, WAIT}
 use Rattle.meaning.specs.Program.{parts, variables, clocks, entryAt}
 use Rattle.meaning.specs.Table.{operandOf, isTable}
 use Rattle.meaning.specs.Record.{startedPlace, startsPlace, marksPlace, recordLength, timeAt, lastTime, startedIn, startsIn, isMark, isZero, clockAllowed, recordAllowed}
-use Rattle.meaning.specs.Cycle.{isKind, isLeaf, leavesFrom, startsClock, clockFlags, clockStarts, startingLeaves}
+use Rattle.meaning.specs.Cycle.{isKind, isLeaf, leavesFrom, startsClock, startingLeaves, settledFlags, settledStarts}
 use Rattle.meaning.proofs.Records.{length-times, allowed-long, allowed-clock}
 use Rattle.meaning.proofs.Entries.{entry-allowed, start-fits}
 use Rattle.run_record.proofs.Marks.{clocks-fit}
-use Rattle.run_clocks.specs.Starting.{clockStarted, partStarted, partsStarted}
+use Rattle.run_clocks.specs.Starting.{clockStarted, partStarted, partsStarted, clocksSettled}
 
 -- What a clock of flag x has after the pass, where it had `old` before: `new` where it was not started and is named
 after : ℕ → Bool → ℕ → ℕ → ℕ
@@ -278,15 +278,15 @@ module _ (t r : List ℕ) (table : isTable t ≡ true) (allowed : recordAllowed 
       })
 
   pub clocks-made : (w : List ℕ) (time : ℕ) → time ≡ lastTime r → w ≡ partsStarted t time 0 (parts t) r
-      → w ≡ sets (sets r startedPlace (clockFlags (clocks t) (startingLeaves t r) (startedIn t r))) startsPlace (flat (littleEndian timeWidth) (clockStarts (clocks t) (startingLeaves t r) (startedIn t r) (startsIn t r) (lastTime r)))
+      → w ≡ clocksSettled t r
   unfolding named withClocks
   clocks-made w time time-is w-is =
       let f = pass .flags-hold in
       let s = pass .starts-hold in
-      let fs : pass .flags ≡ clockFlags (clocks t) (startingLeaves t r) (startedIn t r) =
+      let fs : pass .flags ≡ settledFlags t r =
       ext-getD 0 (pass .flags) _ (f .0 ∙ sym (length-tabulate _ 0 (clocks t))) (λ i h. f .1 i (rw (f .0) at h) ∙ flag-made (getD (startedIn t r) i 0) (named i) (allowed-clock t r allowed i (rw (f .0) at h) .0) ∙ sym (getD-tabulate _ 0 (clocks t) i 0 (rw (f .0) at h) ∙ rw zero-add))
       in
-      let ss : pass .starts ≡ clockStarts (clocks t) (startingLeaves t r) (startedIn t r) (startsIn t r) (lastTime r) =
+      let ss : pass .starts ≡ settledStarts t r =
       ext-getD 0 (pass .starts) _ (s .0 ∙ sym (length-tabulate _ 0 (clocks t))) (λ i h. s .1 i (rw (s .0) at h) ∙ start-made (lastTime r) (getD (startedIn t r) i 0) (getD (startsIn t r) i 0) (named i) (allowed-clock t r allowed i (rw (s .0) at h) .1) ∙ sym (getD-tabulate _ 0 (clocks t) i 0 (rw (s .0) at h) ∙ rw zero-add))
       in
       w-is ∙ ap (λ (x : ℕ). partsStarted t x 0 (parts t) r) time-is ∙ pass .record-is ∙ ap₂ (λ a b. sets (sets r startedPlace a) startsPlace (flat (littleEndian timeWidth) b)) fs ss

@@ -4,13 +4,14 @@ use mathlib.Core.Bool.{cond, _&&_}
 use mathlib.Core.List.{List}
 use lib.ListN.{getD, set}
 use lib.Seq.{sets}
+use Rattle.base.specs.Lists.{flat}
 use Rattle.meaning.specs.declared.Form.the-variants.{Table}
 use Rattle.meaning.specs.Sizes.{timeWidth, littleEndian}
 use Rattle.meaning.specs.Kinds.{START}
 use Rattle.meaning.specs.Program.{entryAt}
 use Rattle.meaning.specs.Table.{operandOf}
 use Rattle.meaning.specs.Record.{startedPlace, startsPlace, marksPlace, isMark}
-use Rattle.meaning.specs.Cycle.{isKind}
+use Rattle.meaning.specs.Cycle.{isKind, settledFlags, settledStarts}
 
 -- clock c is started at a time, unless it is started
 unfoldable pub clockStarted : ℕ → ℕ → List ℕ → List ℕ
@@ -24,3 +25,7 @@ partStarted t time p r = cond (isMark (getD r (marksPlace + p) 0) && isKind STAR
 unfoldable pub partsStarted : List ℕ → ℕ → ℕ → ℕ → List ℕ → List ℕ
 partsStarted t time p zero r = r
 partsStarted t time p (suc n) r = partsStarted t time (suc p) n (partStarted t time p r)
+
+-- the record with the flags and the starts that a settling leaves
+abbrev pub clocksSettled : List ℕ → List ℕ → List ℕ
+clocksSettled t r = sets (sets r startedPlace (settledFlags t r)) startsPlace (flat (littleEndian timeWidth) (settledStarts t r))

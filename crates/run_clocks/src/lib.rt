@@ -19,14 +19,11 @@ ghost use mathlib.Core.Path.{_≡_};
 ghost use mathlib.Core.Bool.{true};
 ghost use Prim.Native.Nat.{_<_, _≤_};
 ghost use lib.ListN.{length};
-ghost use lib.Seq.{sets};
-ghost use Rattle.base.specs.Lists.{flat};
-ghost use Rattle.meaning.specs.Sizes.{maxClocks, timeWidth, littleEndian};
-ghost use Rattle.meaning.specs.Program.{parts, clocks};
+ghost use Rattle.meaning.specs.Sizes.{maxClocks};
+ghost use Rattle.meaning.specs.Program.{parts};
 ghost use Rattle.meaning.specs.Table.{isTable};
-ghost use Rattle.meaning.specs.Record.{startedPlace, startsPlace, recordLength, lastTime, startedIn, startsIn, recordAllowed};
-ghost use Rattle.meaning.specs.Cycle.{clockFlags, clockStarts, startingLeaves};
-ghost use Rattle.run_clocks.specs.Starting.{clockStarted, partStarted};
+ghost use Rattle.meaning.specs.Record.{recordLength, recordAllowed};
+ghost use Rattle.run_clocks.specs.Starting.{clockStarted, partStarted, clocksSettled};
 
 // Starts clock c at a time, unless it is started.
 fn start_clock(r: &mut [u8], c: u8, time: u32)
@@ -60,7 +57,7 @@ fn start_part(t: &[u8], r: &mut [u8], p: Number, time: u32)
 pub fn start_clocks(t: &[u8], r: &mut [u8])
     requires { ⌜ isTable (now t) ≡ true ⌝ }
     requires { ⌜ recordAllowed (now t) (now r) ≡ true ⌝ }
-    ensures { λ _. ⌜ now (r .exit) ≡ sets (sets (now (r .entry)) startedPlace (clockFlags (clocks (now (t .entry))) (startingLeaves (now (t .entry)) (now (r .entry))) (startedIn (now (t .entry)) (now (r .entry))))) startsPlace (flat (littleEndian timeWidth) (clockStarts (clocks (now (t .entry))) (startingLeaves (now (t .entry)) (now (r .entry))) (startedIn (now (t .entry)) (now (r .entry))) (startsIn (now (t .entry)) (now (r .entry))) (lastTime (now (r .entry))))) ⌝ }
+    ensures { λ _. ⌜ now (r .exit) ≡ clocksSettled (now (t .entry)) (now (r .entry)) ⌝ }
 {
     let time = last_time(r);
     for p in 0..parts(t) {

@@ -17,10 +17,6 @@ pub lowest-next : (p m : ℕ) (ms : List ℕ) → lowest p (m ∷ ms) ≡ cond (
 unfolding lowest
 lowest-next p m ms = refl
 
-pub lowest-none : (p : ℕ) → lowest p [] ≡ p
-unfolding lowest
-lowest-none p = refl
-
 -- it is none of the parts before those
 pub lowest-from : (p : ℕ) (ms : List ℕ) → p ≤ lowest p ms
 unfolding lowest

@@ -533,12 +533,6 @@ module _ (t r : List ℕ) where
             ),
       )
 
-  pub allowed-record : recordAllowed t r ≡ true → AllowedRecord t r
-  allowed-record = exactly-allowed .0
-
-  pub record-allowed-by : AllowedRecord t r → recordAllowed t r ≡ true
-  record-allowed-by = exactly-allowed .1
-
 -- each part of a table lies there
 abbrev Lying : List ℕ → ℕ → Type 0
 Lying t n = (p : Part) × (q : ℕ) × (x : ℕ) × Lies t p n q x

@@ -13,7 +13,7 @@ use Rattle.meaning.specs.declared.Fate.the-variants.{Stays, Ends}
 use Rattle.meaning.specs.declared.Outcome.the-variants.{Satisfied, Violated}
 use Rattle.meaning.specs.Kinds.{SEQ, MAINTAIN, kindOf, numberOf, known, arity, testOf, testAllowed, conditionAllowed, goalAllowed, startAllowed, countAllowed, emptyAllowed, operandAllowed}
 use Rattle.meaning.specs.Tree.{Part, fold, size, depth, goal, start, wait, seq, maintain, one, more}
-use Rattle.meaning.specs.Program.{sizesAllowed, entriesFrom, entries, preorder, knownEntry, allowedEntry, arityOf, make, place, trees, treeOf, programRefusal}
+use Rattle.meaning.specs.Program.{sizesAllowed, entries, preorder, knownEntry, allowedEntry, arityOf, make, place, trees, treeOf, programRefusal}
 use Rattle.meaning.specs.Table.{operandOf, nextAt, nextOf, block, tableOf, compiled, fileIn, isTable}
 use Rattle.meaning.specs.Conditions.{Situation, outcome, reached, satisfied, violated}
 use Rattle.meaning.specs.Record.{recordLength, phaseOf, lastTime, estimateIn, startedIn, startsIn, marksIn, restZero, valuesAllowed, clockAllowed, clocksAllowed, markedChildren, childrenAllowed, partsAllowed, rootAllowed, recordBytes, recordAllowed}
@@ -48,7 +48,7 @@ table =
     ∷ []
 
 pub table-is : compiled File file ≡ table
-unfolding kindOf numberOf known arity fold depth size sizesAllowed entriesFrom entries preorder arityOf make place trees treeOf nextOf block tableOf compiled
+unfolding kindOf numberOf known arity fold depth size sizesAllowed entries preorder arityOf make place trees treeOf nextOf block tableOf compiled
 table-is = refl
 
 -- The record after a beginning, and after cycles at 100 and 109; in the second the frame tilts: the settling's estimate has 1 for variable 1
@@ -152,7 +152,7 @@ pub record Worked : Type 0 where
   pub after-says : Says after (1 ∷ 0 ∷ 0 ∷ 0 ∷ 0 ∷ 0 ∷ 1 ∷ []) 0 110 level (1 ∷ []) (100 ∷ [])
 
 pub worked : Worked
-unfolding kindOf numberOf known arity testOf testAllowed conditionAllowed goalAllowed startAllowed countAllowed emptyAllowed operandAllowed fold depth size sizesAllowed entriesFrom entries preorder knownEntry allowedEntry arityOf make place trees treeOf programRefusal nextOf block tableOf compiled fileIn isTable outcome reached satisfied violated restZero valuesAllowed clockAllowed clocksAllowed markedChildren childrenAllowed partsAllowed rootAllowed recordBytes recordAllowed beginsIn freshFrom fresh checkedFrom leavesFrom valuesFor goalBytes fate applied settledFrom estimateAllowed freshRecord beginRefusal begunInto offerRefusal offeredInto goalsInto worksFrom settleRefusal settledInto
+unfolding kindOf numberOf known arity testOf testAllowed conditionAllowed goalAllowed startAllowed countAllowed emptyAllowed operandAllowed fold depth size sizesAllowed entries preorder knownEntry allowedEntry arityOf make place trees treeOf programRefusal nextOf block tableOf compiled fileIn isTable outcome reached satisfied violated restZero valuesAllowed clockAllowed clocksAllowed markedChildren childrenAllowed partsAllowed rootAllowed recordBytes recordAllowed beginsIn freshFrom fresh checkedFrom leavesFrom valuesFor goalBytes fate applied settledFrom estimateAllowed freshRecord beginRefusal begunInto offerRefusal offeredInto goalsInto worksFrom settleRefusal settledInto
 worked =
     record {
       begun-says = record { marks-are = refl; phase-is = refl; time-is = refl; estimate-is = refl; started-are = refl; starts-are = refl };
@@ -175,7 +175,7 @@ tree =
     (one (goal (operand 0 0 1))))
 
 pub tree-is : treeOf File file ≡ some tree
-unfolding kindOf numberOf known arity entriesFrom entries arityOf make place trees treeOf
+unfolding kindOf numberOf known arity entries arityOf make place trees treeOf
 tree-is = refl
 
 -- the SEQ is at its first child, a MAINTAIN that holds, whose SEQ is at its second
