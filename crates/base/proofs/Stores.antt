@@ -7,7 +7,7 @@ use native.Mathlib.Nat.{zero-add, add-zero, add-suc, suc-add, sub-zero}
 use native.Mathlib.Numerals.{add-one}
 use native.Mathlib.Omega.{arith}
 use lib.ListN.{length, getD, take, drop, set, replicate, length-append, length-set, List·getD-map}
-use lib.Seq.{sets, drop-cons, sets-eq, length-take-le, drop-at, getD-set-same, getD-set-other, drop-set-lt, set-comm, set-set, drop-drop, drop-append-seam, drop-append-add, getD-drop}
+use lib.Seq.{sets, drop-cons, sets-eq, length-take-le, take-at, drop-at, getD-set-same, getD-set-other, drop-set-lt, set-comm, set-set, drop-drop, drop-append-seam, drop-append-add, getD-drop}
 use Rattle.base.specs.Lists.{sum, join, bytesAt}
 
 -- a run of stores, and then one that begins where it ends
@@ -70,6 +70,10 @@ bytes-all s = bytes-front s s [] 0 (sym (append-nil s))
 pub drop-bytes : (s : List ℕ) (k n : ℕ) → k + n ≤ length s → drop k s ≡ bytesAt s k n ++ drop (k + n) s
 drop-bytes s k zero h = rw add-zero
 drop-bytes s k (suc n) h = drop-cons s k 0 (omega arith) ∙ rw (add-suc, ← suc-add) (ap (λ (r : List ℕ). getD s k 0 ∷ r) (drop-bytes s (suc k) n (omega arith)))
+
+-- so many bytes taken from a place on
+pub take-bytes : (s : List ℕ) (k n : ℕ) → k + n ≤ length s → take n (drop k s) ≡ bytesAt s k n
+take-bytes s k n h = rw (drop-bytes s k n h) (take-at (bytesAt s k n) (drop (k + n) s) n (length-bytes s k n))
 
 -- a run of stores that begins a list
 pub sets-start : (l xs : List ℕ) → length xs ≤ length l → sets l 0 xs ≡ xs ++ drop (length xs) l

@@ -9,3 +9,4 @@ pub mod Entries
 pub mod Records
 pub mod Refusals
 pub mod Answers
+pub mod Decisions

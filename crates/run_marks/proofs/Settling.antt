@@ -5,7 +5,7 @@ use native.Mathlib.Numerals.{add-one}
 use native.Mathlib.Omega.{arith}
 use mathlib.Core.Path.{_≡_, refl, sym, ap, _∙_}
 use mathlib.Core.Logic.{_⊎_, inl, inr, ⊎-map}
-use mathlib.Core.Bool.{Bool, true, false, cond, not, false≢true}
+use mathlib.Core.Bool.{Bool, true, false, cond, not}
 use mathlib.Core.List.{List, [], _∷_}
 use lib.Dec.{eqb, ltb}
 use lib.ListN.{length, getD, drop, set, length-drop, drop-of-length-le}
@@ -18,12 +18,13 @@ use Rattle.meaning.specs.declared.Form.the-variants.{Table}
 use Rattle.meaning.specs.declared.Fate.{Fate}
 use Rattle.meaning.specs.declared.Fate.the-variants.{Stays, Ends, First, Second}
 use Rattle.meaning.specs.Sizes.{noPart, maxParts, numberLimit}
-use Rattle.meaning.specs.Kinds.{Kind, UNKNOWN, GOAL, START, WAIT, SEQ, PAR, MAINTAIN, CHOICE, REPEAT, kindOf}
+use Rattle.meaning.specs.Kinds.{kindOf}
 use Rattle.meaning.specs.Program.{parts, entryAt}
 use Rattle.meaning.specs.Table.{kindAt, operandOf, endAt, nextAt, insideOf, isTable}
 use Rattle.meaning.specs.Record.{marksPlace, lastTime, marksIn, isMark}
-use Rattle.meaning.specs.Conditions.{Situation, reached, satisfied}
-use Rattle.meaning.specs.Cycle.{freshFrom, fresh, endsIf, fate, begun, applied, settledFrom, settledMarks, situation}
+use Rattle.meaning.specs.Conditions.{Situation}
+use Rattle.meaning.specs.Cycle.{freshFrom, fresh, fate, begun, applied, settledFrom, settledMarks, situation}
+use Rattle.meaning.proofs.Decisions.{decides, decides-kind}
 use Rattle.meaning.proofs.Tables.{Later, inside, choice-inside}
 use Rattle.meaning.proofs.Records.{length-fresh, length-settled}
 use Rattle.program_part.specs.Held.{Held}
@@ -53,33 +54,6 @@ fits-or-none t p n Ends h = h
 fits-or-none t p n First h = inr h
 fits-or-none t p n Second h = inr h
 
--- only a CHOICE takes a child
-abbrev takes : Fate → Bool
-takes Stays = false
-takes Ends = false
-takes First = true
-takes Second = true
-
-ends-takes : (b : Bool) → takes (endsIf b) ≡ false
-ends-takes true = refl
-ends-takes false = refl
-
-choice-takes : (s : Situation) (k : Kind) (o : Operand) (b a : Bool) → takes (fate s k o b a) ≡ true → k ≡ CHOICE
-unfolding fate
-choice-takes s UNKNOWN o b a e = absurd (false≢true e)
-choice-takes s GOAL o b a e = absurd (false≢true (sym (ends-takes (reached s o)) ∙ e))
-choice-takes s START o b a e = absurd (false≢true e)
-choice-takes s WAIT o b a e = absurd (false≢true (sym (ends-takes (satisfied s o)) ∙ e))
-choice-takes s SEQ o b true e = absurd (false≢true e)
-choice-takes s SEQ o b false e = absurd (false≢true e)
-choice-takes s PAR o b true e = absurd (false≢true e)
-choice-takes s PAR o b false e = absurd (false≢true e)
-choice-takes s MAINTAIN o b true e = absurd (false≢true e)
-choice-takes s MAINTAIN o b false e = absurd (false≢true e)
-choice-takes s CHOICE o b a e = refl
-choice-takes s REPEAT o b true e = absurd (false≢true e)
-choice-takes s REPEAT o b false e = absurd (false≢true e)
-
 module _ (t : List ℕ) (table : isTable t ≡ true) where
   stands : (p q : ℕ) → p ≤ q → q < parts t → Stands t p q (parts t)
   stands p q a b =
@@ -96,10 +70,10 @@ module _ (t : List ℕ) (table : isTable t ≡ true) where
       go (inr (inl e)) = inr (stands p (nextAt t p) (omega arith) (omega arith))
       go (inr (inr f)) = inr (stands p (nextAt t p) (omega (arith, f .after)) (f .before-end))
   fate-fits s p o b a First l e =
-      let c = choice-inside t table p l (choice-takes s (kindAt t p) o b a (ap takes (sym e))) in
+      let c = choice-inside t table p l (decides-kind s (kindAt t p) o b a (ap decides (sym e)) .0) in
       stands p (suc p) (omega arith) (c .0)
   fate-fits s p o b a Second l e =
-      let c = choice-inside t table p l (choice-takes s (kindAt t p) o b a (ap takes (sym e))) in
+      let c = choice-inside t table p l (decides-kind s (kindAt t p) o b a (ap decides (sym e)) .0) in
       stands p (endAt t (suc p)) (omega (arith, inside t table (suc p) (c .0) .end-after)) (c .1)
 
   module _ (r est : List ℕ) (p : ℕ) (low : Lowest) (f : Fate) (here : p < parts t) (f-is : f ≡ turnFate t r est p low) where
@@ -109,7 +83,7 @@ module _ (t : List ℕ) (table : isTable t ≡ true) where
     fated =
         let s : Situation = situation t r est (lastTime r) in
         record {
-          second = λ e. choice-inside t table p here (choice-takes s (kindAt t p) (operandOf t p) _ _ (ap takes (sym f-is ∙ e))) .0;
+          second = λ e. choice-inside t table p here (decides-kind s (kindAt t p) (operandOf t p) _ _ (ap decides (sym f-is ∙ e)) .0) .0;
           follows = ⊎-map (λ e. e) (λ st. omega (arith, st .before, st .within)) (fits-or-none t p (parts t) f (fate-fits s p (operandOf t p) _ _ f here f-is));
         }
 

@@ -8,11 +8,11 @@ use mathlib.Core.Logic.{inl, inr}
 use mathlib.Core.Bool.{Bool, true, false, not, cond, _&&_}
 use mathlib.Core.List.{List, [], _∷_}
 use lib.ListN.{length, getD, take, drop, set}
-use lib.Seq.{sets, set-getD, getD-set-other, take-at}
+use lib.Seq.{sets, set-getD, getD-set-other}
 use borrow.Author.Tests.{eqb-true, not-false}
 use Rattle.base.specs.Lists.{bytesAt}
 use Rattle.base.proofs.Lists.{and-right, tabulate-same}
-use Rattle.base.proofs.Stores.{length-bytes, bytes-same, drop-bytes, bytes-sets-out}
+use Rattle.base.proofs.Stores.{length-bytes, bytes-same, take-bytes, bytes-sets-out}
 use Rattle.meaning.specs.declared.Operand.{Operand}
 use Rattle.meaning.specs.declared.Entry.{Entry}
 use Rattle.meaning.specs.declared.Outcome.{Outcome}
@@ -63,10 +63,6 @@ module _ (s : Situation) (e : Entry) (x y : Bool) where
       go true false k = cc
       go false b k = cc
 
--- the part of a record from place k on, as long as it is
-part-bytes : (r : List ℕ) (k n : ℕ) → k + n ≤ length r → take n (drop k r) ≡ bytesAt r k n
-part-bytes r k n h = rw (drop-bytes r k n h) (take-at (bytesAt r k n) (drop (k + n) r) n (length-bytes r k n))
-
 module _ (t : List ℕ) (s : Situation) (p m : ℕ) (e : Entry) (x y : Bool) (e-is : e ≡ entryAt Table t p) (x-is : x ≡ isMark m) (y-is : y ≡ isKind MAINTAIN e) where
   breaks-is : (x && (y && violated s (e .operand))) ≡ breaks t s p m
   breaks-is = rw (x-is, y-is) (ap (λ (a : Entry). isMark m && (isKind MAINTAIN a && violated s (a .operand))) e-is)
@@ -89,14 +85,14 @@ pub judged-lent : (t r : List ℕ) (time v w : ℕ) (o : Operand) (c : Outcome) 
 unfolding judging
 judged-lent t r time v w o c table long v-is w-is c-is =
     let n : estimatePlace + w - estimatePlace ≡ variables t = omega arith in
-    let l : take (estimatePlace + w - estimatePlace) (drop estimatePlace r) ≡ estimateIn t r = rw n (part-bytes r estimatePlace (variables t) (omega (arith, table-held t table .1 .within .variables-fit))) in
+    let l : take (estimatePlace + w - estimatePlace) (drop estimatePlace r) ≡ estimateIn t r = rw n (take-bytes r estimatePlace (variables t) (omega (arith, table-held t table .1 .within .variables-fit))) in
     rw l at c-is
 
 -- what is lent is as long as there are variables
 pub lent-length : (t r : List ℕ) (v w : ℕ) → isTable t ≡ true → recordLength ≤ length r → v ≡ variables t → w ≡ v → variables t ≤ length (take (estimatePlace + w - estimatePlace) (drop estimatePlace r))
 lent-length t r v w table long v-is w-is =
     let n : estimatePlace + w - estimatePlace ≡ variables t = omega arith in
-    rw (n, part-bytes r estimatePlace (variables t) (omega (arith, table-held t table .1 .within .variables-fit)), length-bytes) (omega arith)
+    rw (n, take-bytes r estimatePlace (variables t) (omega (arith, table-held t table .1 .within .variables-fit)), length-bytes) (omega arith)
 
 -- what is left to be done begins with part p's turn
 checked-next : (t r : List ℕ) (time p skip : ℕ) → p < parts t → checkedRest t time r p skip ≡ sets r (marksPlace + p) (checkedFrom t (judging t r time) p (getD r (marksPlace + p) 0 ∷ bytesAt r (suc (marksPlace + p)) (parts t - suc p)) skip)

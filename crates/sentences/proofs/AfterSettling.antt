@@ -22,12 +22,13 @@ use Rattle.meaning.specs.Record.{marksPlace, recordLength, phaseOf, lastTime, m
 use Rattle.meaning.specs.declared.Fate.{Fate}
 use Rattle.meaning.specs.declared.Fate.the-variants.{Stays, Ends, First, Second}
 use Rattle.meaning.specs.Cycle.{fresh, begun, settledFrom, situation, settledMarks}
+use Rattle.meaning.proofs.Decisions.{decides, decides-kind}
 use Rattle.meaning.proofs.Tables.{Later, Inside, inside}
 use Rattle.meaning.proofs.Records.{length-fresh, length-settled}
 use Rattle.meaning.proofs.Lies.{Lies, own-kind, own-inside}
 use Rattle.meaning.proofs.Nesting.{lower, at, root-next, inside-root, nested}
 use Rattle.sentences.proofs.Followers.{Followed, Branches, next-nested, choice-branches}
-use Rattle.sentences.proofs.Settlings.{Marked, later, insideBefore, insideAfter, fateAt, EndsAt, TakesFirst, TakesSecond, marked-length, decides, decides-kind, composite-ends, deciding-stays, unmarked-unjudged, end-no-next, end-next, decides-first, decides-second, stays, kept-own}
+use Rattle.sentences.proofs.Settlings.{Marked, later, insideBefore, insideAfter, fateAt, EndsAt, TakesFirst, TakesSecond, marked-length, composite-ends, deciding-stays, unmarked-unjudged, end-no-next, end-next, decides-first, decides-second, stays, kept-own}
 
 -- a part that was marked and does not end
 abbrev pub Kept : List ℕ → Situation → List ℕ → ℕ → Type 0

@@ -10,9 +10,8 @@ use lib.Seq.{sets, drop-cons}
 use borrow.Author.Tests.{eq-eqb, ne-eqb}
 use Rattle.base.specs.Lists.{any}
 use Rattle.base.proofs.Stores.{getD-sets-out}
-use Rattle.meaning.specs.declared.Operand.{Operand}
 use Rattle.meaning.specs.Sizes.{noPart}
-use Rattle.meaning.specs.Kinds.{Kind, UNKNOWN, GOAL, START, WAIT, SEQ, PAR, MAINTAIN, CHOICE, REPEAT}
+use Rattle.meaning.specs.Kinds.{GOAL, START, WAIT, SEQ, PAR, MAINTAIN, CHOICE, REPEAT}
 use Rattle.meaning.specs.Program.{parts}
 use Rattle.meaning.specs.Table.{kindAt, operandOf, endAt, nextAt, insideOf, isTable}
 use Rattle.meaning.specs.Conditions.{Situation, reached, satisfied}
@@ -20,6 +19,7 @@ use Rattle.meaning.specs.Record.{isMark}
 use Rattle.meaning.specs.declared.Fate.{Fate}
 use Rattle.meaning.specs.declared.Fate.the-variants.{Stays, Ends, First, Second}
 use Rattle.meaning.specs.Cycle.{endsIf, fate, fresh, applied, settledPart, settledFrom, rootEnded}
+use Rattle.meaning.proofs.Decisions.{decides, decides-kind}
 use Rattle.meaning.proofs.Tables.{root-there}
 use Rattle.meaning.proofs.Nesting.{lower, root-next}
 use Rattle.sentences.proofs.Followers.{choice-branches}
@@ -82,31 +82,6 @@ ends-or Stays = inr (λ e. false≢true cc)
 ends-or Ends = inl refl
 ends-or First = inr (λ e. false≢true cc)
 ends-or Second = inr (λ e. false≢true cc)
-
--- to decide is to take a child
-abbrev pub decides : Fate → Bool
-decides Stays = false
-decides Ends = false
-decides First = true
-decides Second = true
-
-undecided : (b : Bool) → decides (endsIf b) ≡ true → ⊥
-undecided true e = false≢true e
-undecided false e = false≢true e
-
--- a part that decides is a deciding CHOICE
-pub decides-kind : (s : Situation) (k : Kind) (o : Operand) (before after : Bool) → decides (fate s k o before after) ≡ true → (k ≡ CHOICE) × (before ≡ false)
-unfolding fate
-decides-kind s UNKNOWN o b a e = absurd (false≢true e)
-decides-kind s GOAL o b a e = absurd (undecided (reached s o) e)
-decides-kind s START o b a e = absurd (false≢true e)
-decides-kind s WAIT o b a e = absurd (undecided (satisfied s o) e)
-decides-kind s SEQ o b a e = absurd (undecided (not a) e)
-decides-kind s PAR o b a e = absurd (undecided (not a) e)
-decides-kind s MAINTAIN o b a e = absurd (undecided (not a) e)
-decides-kind s CHOICE o true a e = absurd (undecided (not a) e)
-decides-kind s CHOICE o false a e = (refl, refl)
-decides-kind s REPEAT o b a e = absurd (undecided (not a) e)
 
 module _ (t : List ℕ) (s : Situation) (ms : List ℕ) (p : ℕ) where
   -- a marked part meets a fate where that is its fate
