@@ -1,4 +1,4 @@
--- Laws of the estimate that a line carries, for who reads a line: how many bytes it has, that a buffer as long as the line has room for them, and that they stand there.
+-- Laws of a line's estimate, for the reader of a line: how many bytes it has, that a buffer as long as the line has room for them, and that they stand there.
 use Prim.Native.Nat.{ℕ, _*_, _≤_}
 use native.Mathlib.Omega.{arith}
 use mathlib.Core.Path.{_≡_, refl}

@@ -59,7 +59,7 @@ callOf w rest =
 unfoldable pub lineOf : List ℕ → Line
 lineOf l = callOf (wordOf (trimmed l)) (restOf (trimmed l))
 
--- The bytes of an estimate that a line carries, up to the first fault in them
+-- The bytes of a line's estimate, up to the first fault in them
 unfoldable pub bytesAfter : List ℕ → List ℕ → List ℕ
 bytesAfter w rest = cond (same w beginWord || same w settleWord) (pairBytes rest) []
 

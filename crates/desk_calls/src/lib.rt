@@ -14,8 +14,8 @@ ghost use mathlib.Core.Path.{_≡_};
 ghost use lib.Seq.{sets};
 ghost use Rattle.desk_calls.specs.Lines.{passedOver, beginWith, settleWith, offerWith, callOf, lineOf, bytesAfter, bytesOf};
 
-// What a line says. The bytes of an estimate are stored beside it; `Begin` and `Settle` have their
-// number. `OfferInto` has a time and the goal buffer's length.
+// What a line says. `Passed` is a line with no word, or a comment. `Begin` and `Settle` have the number of bytes of
+// the estimate, which are stored in a buffer. `Offer` has a time, `OfferInto` a time and the goal buffer's length.
 pub enum Line {
     Passed,
     Begin(usize),
@@ -32,7 +32,7 @@ fn passed_over(word: &[u8]) -> bool
     (word.len() == 0) | (at(word, 0) == b'#')
 }
 
-// A beginning, where its estimate has no fault.
+// What a line with the word `begin` says, by the pairs of digits after it.
 fn begin_with(pairs: Pairs) -> Line
     ensures { λ r. ⌜ r ≡ beginWith pairs ⌝ }
 {
@@ -42,7 +42,7 @@ fn begin_with(pairs: Pairs) -> Line
     }
 }
 
-// A settling, where its estimate has no fault.
+// What a line with the word `settle` says, by the pairs of digits after it.
 fn settle_with(pairs: Pairs) -> Line
     ensures { λ r. ⌜ r ≡ settleWith pairs ⌝ }
 {
@@ -52,7 +52,7 @@ fn settle_with(pairs: Pairs) -> Line
     }
 }
 
-// A time, and after it a length or nothing.
+// What a line with the word `offer` says: after it stand a time, and a length or nothing.
 fn offer_with(s: &[u8]) -> Line
     ensures { λ r. ⌜ r ≡ offerWith (now (s .entry)) ⌝ }
 {
@@ -74,7 +74,7 @@ fn offer_with(s: &[u8]) -> Line
     }
 }
 
-// The line of a word and what stands after it.
+// What a line says, by its first word and what stands after it. The bytes of an estimate are stored in `bytes`.
 fn call_of(word: &[u8], rest: &[u8], bytes: &mut [u8]) -> Line
     ensures { λ r. ⌜ r ≡ callOf (now (word .entry)) (now (rest .entry)) ⌝ }
     ensures { λ _. ⌜ now (bytes .exit) ≡ sets (now (bytes .entry)) 0 (bytesAfter (now (word .entry)) (now (rest .entry))) ⌝ }
@@ -94,8 +94,8 @@ fn call_of(word: &[u8], rest: &[u8], bytes: &mut [u8]) -> Line
     Line::NotACall
 }
 
-// Reads a line, which has no line feed, and stores the bytes of the estimate that it carries from the
-// beginning of `bytes` on. A buffer as long as the line has room for them.
+// Reads a line without its line feed, and stores the bytes of its estimate at the beginning of `bytes`. A buffer as
+// long as the line has room for them.
 pub fn read_line(line: &[u8], bytes: &mut [u8]) -> Line
     ensures { λ r. ⌜ r ≡ lineOf (now (line .entry)) ⌝ }
     ensures { λ _. ⌜ now (bytes .exit) ≡ sets (now (bytes .entry)) 0 (bytesOf (now (line .entry))) ⌝ }

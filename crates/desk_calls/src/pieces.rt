@@ -1,4 +1,4 @@
-// Input held piece by piece in a buffer.
+// Lines in a buffer into which the input is read piece by piece.
 use base::at;
 use base::put;
 use desk_parse::find;

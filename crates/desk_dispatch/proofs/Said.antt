@@ -1,4 +1,4 @@
--- What a line says is done: one law for each thing that a line can say.
+-- The call of a line is made: one law for each thing that a line can say.
 use Prim.Native.Nat.{ℕ, min}
 use mathlib.Core.Path.{_≡_, refl}
 use mathlib.Core.Bool.{true, false}

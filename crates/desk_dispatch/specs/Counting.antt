@@ -6,14 +6,14 @@ use lib.Dec.{eqb, ltb}
 use lib.ListN.{length}
 use Rattle.meaning.specs.Cycle.{beginRefusal, settleRefusal}
 
--- the largest count: one more is kept as the same
+-- the largest count: it does not grow any more
 abbrev pub maxCount : ℕ
 maxCount = 2 ^ 64 - 1
 
 unfoldable pub more : ℕ → ℕ
 more n = cond (ltb n maxCount) (n + 1) n
 
--- an accepted beginning starts the count anew, and each settling that is not refused is a cycle
+-- an accepted beginning sets the count to 0, and each settling that is not refused adds 1
 unfoldable pub begunCycles : List ℕ → List ℕ → List ℕ → ℕ → ℕ
 begunCycles t est r n = cond (eqb (beginRefusal t est (length r)) 0) 0 n
 

@@ -1,4 +1,4 @@
--- What a line that has been read comes to: its text, the record, the count of cycles, and whether the run ends.
+-- What follows from a line that was read: its text, the record, the count of cycles, and whether the run ends.
 use Prim.Native.Nat.{ℕ, min}
 use mathlib.Core.Path.{_≡_}
 use mathlib.Core.Bool.{Bool, true, false}
@@ -39,7 +39,7 @@ pub record SettleTold (t r est r' text : List ℕ) : Type 0 where
 abbrev pub Is : List ℕ → List ℕ → Type 0
 Is a text = text ≡ a
 
--- what line number n comes to. A line that is passed over comes to nothing, and one that is no call to the words that say so
+-- the text of line number n. A line that is passed over has none, and one that is no call has the words that say so
 abbrev pub Told : List ℕ → List ℕ → ℕ → Line → List ℕ → List ℕ → List ℕ → Type 0
 Told t r n Passed est r' text = (r' ≡ r) × Is [] text
 Told t r n (Begin k) est r' text = BeginTold t est r r' text

@@ -7,14 +7,14 @@ ghost use lib.Dec.{eqb, leb};
 ghost use Rattle.meaning.specs.Answers.{answered, answerNumber, settleNumber};
 ghost use Rattle.desk_dispatch.specs.Counting.{more};
 
-// One more, as long as there is one.
+// n + 1, and n itself where n is the largest number.
 pub fn one_more(n: u64) -> u64
     ensures { λ r. ⌜ r ≡ more n ⌝ }
 {
     if n < u64::MAX { n + 1 } else { n }
 }
 
-// The count after a beginning that gave the answer: an accepted one starts it anew.
+// The count after a beginning with this answer: 0 where it is accepted.
 pub(crate) fn after_begin(a: Answer, cycles: u64) -> u64
     ensures { λ n. ⌜ n ≡ cond (eqb (answerNumber a) 0) 0 cycles ⌝ }
 {
@@ -24,7 +24,7 @@ pub(crate) fn after_begin(a: Answer, cycles: u64) -> u64
     }
 }
 
-// The count after a settling that gave the answer: one that is not refused is a cycle.
+// The count after a settling with this answer: one more where it is not refused.
 pub(crate) fn after_settle(a: SettleAnswer, cycles: u64) -> u64
     ensures { λ n. ⌜ n ≡ cond (leb answered (settleNumber a)) (more cycles) cycles ⌝ }
 {

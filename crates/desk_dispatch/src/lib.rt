@@ -1,8 +1,9 @@
-// The call that a line asks for: it is made, counted, and its answer written.
+// Makes the call that a line asks for, counts the cycles and writes the answer.
 pub mod counting;
 pub mod making;
 
-// What a line has come to: how long the text is, the count of cycles, and whether the run ends here.
+// What one line leads to: the length of the text that is written for it, the count of cycles after it, and whether
+// it ends the run.
 pub struct Turn {
     pub length: usize,
     pub cycles: u64,

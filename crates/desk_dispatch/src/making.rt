@@ -78,7 +78,7 @@ fn settle_call(t: &[u8], r: &mut [u8], est: &[u8], cycles: u64, out: &mut [u8]) 
     }
 }
 
-// Says that line number n is no call.
+// Writes that the line with this number is no call, which ends the run.
 fn no_call(number: u64, cycles: u64, out: &mut [u8]) -> Turn
     ensures { λ x. ⌜ Turned (Is (lineText number)) cycles true (now (out .entry)) (now (out .exit)) x ⌝ }
 {
@@ -90,7 +90,7 @@ fn no_call(number: u64, cycles: u64, out: &mut [u8]) -> Turn
     }
 }
 
-// The length of the goal buffer that was asked for, at most the longest.
+// The length of the goal buffer for a line that asks for n bytes: at most the longest.
 fn room_of(n: u32) -> usize
     ensures { λ r. ⌜ r ≡ min n maxGoals ⌝ }
 {
@@ -98,7 +98,7 @@ fn room_of(n: u32) -> usize
     if room < MAX_GOALS { room } else { MAX_GOALS }
 }
 
-// Does what a line says, with the estimate that it carries.
+// Makes the call of a line, with the line's estimate. A line that is passed over has no call and no text.
 pub fn make(
     t: &[u8],
     r: &mut [u8],

@@ -1,4 +1,4 @@
--- A line answered: its text, and the parts under it.
+-- Laws of a line that is answered: its text, and the marked parts under it.
 use Prim.Native.Nat.{ℕ, _+_, _^_, _≤_, _<_}
 use native.Mathlib.Nat.{zero-add}
 use native.Mathlib.Omega.{arith}
@@ -34,7 +34,7 @@ module _ (asked : Bool) (t r out : List ℕ) (turn : Turn) where
   pub under-written : (out' : List ℕ) (n : ℕ) → not asked ≡ false → Written (partsText t r) out (turn .length) out' n → Under asked t r turn out out' (record { length = n; cycles = turn .cycles; ends = turn .ends })
   under-written out' n h w = rw (not-false asked h) (record { written = w; cycles-are = refl; ends-is = refl })
 
--- a table's sizes are bytes, so what a line comes to fits with the parts under it
+-- a table's sizes are bytes, so the text of a line fits with the marked parts under it
 module _ (t r r' : List ℕ) (n : ℕ) (few : parts t < numberLimit) (narrow : variables t < byteValues) where
   abbrev Fits : Bool → List ℕ → Type 0
   Fits asked text = length text + length (partsUnder asked t r') ≤ maxAnswer
@@ -58,7 +58,7 @@ module _ (t r r' : List ℕ) (n : ℕ) (few : parts t < numberLimit) (narrow : v
   told-fits (Settle k) est text asked h = call-fits asked text (rw (h .text-is) (settled-fits t r' (h .answer) few))
   told-fits NotACall est text asked h = none-fits asked text (rw (h .1) (line-fits n))
 
--- From what was heard on: x is the line, its estimate stands at the beginning of `bytes`, and a text has been written for it
+-- After a line is read: x is the line, its estimate stands at the beginning of `bytes`, and a text has been written for it
 module _ (t r line bytes : List ℕ) (cycles number k : ℕ) (x : Line) (asked b : Bool) (r' out mid : List ℕ) (turn : Turn) (h : Hearing line bytes x) (k-is : k ≡ estimateLength x) (b-is : b ≡ isCall x)
     (z : Turned (Told t r number x (take k bytes) r') (cyclesAt t r x (take k bytes) cycles) (endsRun x) out mid turn) where
   told : Told t r number x (bytesOf line) r' (z .text)

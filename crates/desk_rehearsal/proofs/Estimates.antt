@@ -1,4 +1,4 @@
--- A line that is heard: the estimate that it carries stands at the beginning of the buffer, and what it comes to depends on that alone.
+-- A line that was read: its estimate stands at the beginning of the buffer, and what is written for it depends on no other byte there.
 use Prim.Native.Nat.{ℕ, _≤_, _<_}
 use native.Mathlib.Omega.{arith}
 use mathlib.Core.Path.{_≡_, refl, ap, _∙_}
@@ -32,7 +32,7 @@ module _ (l bytes : List ℕ) (n : ℕ) (bytes-are : bytes ≡ sets (replicate n
       go (Settle k) e = taken k (settle-number l k e)
       go NotACall e = tt
 
--- what is heard of a line that is too long, and of any other
+-- what is read of a line that is too long, and of any other
 module _ (l bytes : List ℕ) where
   pub heard-long : maxLine < length l → Hearing l bytes NotACall
   unfolding heard

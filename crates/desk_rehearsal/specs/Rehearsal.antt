@@ -38,12 +38,12 @@ pub record WithParts (t r : List ℕ) (number : ℕ) (line : Line) (est : List �
   pub told : Told t r number line est r' answer
   pub text-is : text ≡ answer ++ partsUnder (asked && isCall line) t r'
 
--- A line answered
+-- A line, and what is written when it is answered
 abbrev pub Answered : List ℕ → List ℕ → ℕ → ℕ → Bool → List ℕ → List ℕ → List ℕ → List ℕ → Turn → Type 0
 Answered t r cycles number asked line r' out out' turn =
     Turned (WithParts t r number (heard line) (bytesOf line) asked r') (cyclesAt t r (heard line) (bytesOf line) cycles) (endsRun (heard line)) out out' turn
 
--- How many bytes of an estimate a line carries, and that they stand at the beginning of a buffer
+-- The number of bytes of a line's estimate, and that they stand at the beginning of a buffer
 abbrev pub estimateLength : Line → ℕ
 estimateLength Passed = 0
 estimateLength (Begin n) = n
@@ -60,12 +60,12 @@ Carried (OfferInto time room) bytes est = Unit {0}
 Carried (Settle n) bytes est = (n ≤ length bytes) × (take n bytes ≡ est)
 Carried NotACall bytes est = Unit {0}
 
--- A line that was heard: what it says, with its estimate at the beginning of a buffer
+-- A line that was read: what it says, with its estimate at the beginning of a buffer
 pub record Hearing (line bytes : List ℕ) (x : Line) : Type 0 where
   pub line-is : x ≡ heard line
   pub carried : Carried x bytes (bytesOf line)
 
--- The parts written under what a turn has written, where they are asked for
+-- The marked parts, written after the text of a turn where they are asked for
 pub record Under (asked : Bool) (t r : List ℕ) (turn : Turn) (out out' : List ℕ) (turn' : Turn) : Type 0 where
   pub written : Written (partsUnder asked t r) out (turn .length) out' (turn' .length)
   pub cycles-are : turn' .cycles ≡ turn .cycles

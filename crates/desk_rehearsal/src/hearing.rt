@@ -1,4 +1,4 @@
-// What a line says.
+// Reads a line, and tells what it has.
 use crate::MAX_LINE;
 use desk_calls::Line;
 use desk_calls::read_line;
@@ -6,7 +6,7 @@ ghost use mathlib.Core.Path.{_≡_};
 ghost use lib.ListN.{replicate};
 ghost use Rattle.desk_rehearsal.specs.Rehearsal.{maxLine, isCall, estimateLength, Hearing};
 
-// Reads a line. The estimate that it carries stands in `bytes` then, which begins as zeros.
+// Reads a line, and stores its estimate in `bytes`, which holds zeros before. A line that is too long is no call.
 pub(crate) fn hear(line: &[u8], bytes: &mut [u8]) -> Line
     requires { ⌜ now bytes ≡ replicate maxLine 0 ⌝ }
     ensures { λ x. ⌜ Hearing (now (line .entry)) (now (bytes .exit)) x ⌝ }
@@ -17,7 +17,7 @@ pub(crate) fn hear(line: &[u8], bytes: &mut [u8]) -> Line
     read_line(line, bytes)
 }
 
-// How many bytes of an estimate a line carries.
+// The number of bytes of a line's estimate.
 pub(crate) fn estimate_length(x: Line) -> usize
     ensures { λ n. ⌜ n ≡ estimateLength x ⌝ }
 {

@@ -1,4 +1,4 @@
-// Reading the program file.
+// Reads the program file, before the first line.
 use crate::Opened;
 use desk_answers::write_refused;
 use meaning::Answer;
@@ -8,7 +8,7 @@ use program_part::held::length_of;
 use program_part::held::parts;
 ghost use Rattle.desk_rehearsal.specs.Opening.{Opening};
 
-// Reads a program file into its table, or writes why it is refused.
+// Writes the table of a program file, or the text that says why the file is refused.
 pub fn open_program(file: &[u8], table: &mut [u8], out: &mut [u8]) -> Opened
     ensures { λ o. ⌜ Opening (now (file .entry)) (now (table .entry)) (now (table .exit)) (now (out .entry)) (now (out .exit)) o ⌝ }
 {

@@ -29,7 +29,7 @@ pub line-goes : (t r line r' out out' : List ℕ) (asked printed : Bool) (s : St
 line-goes t r line r' out out' asked printed s from number turn e a =
     record { out = out; out' = out'; turn = turn; printed = printed; answered = rw e at a; stand-is = rw e refl }
 
--- reading on: what the read comes to, and what follows
+-- one read: what it answers, and the state after it
 module _ (t r : List ℕ) (asked : Bool) (input : List ℕ) (s : Stand) (n : ℕ) (input' : List ℕ) (p : Piece) (reads : Reads input n p input') where
   pub on-failed : (e : Stand) → p ≡ Failed → e ≡ readTo s n false → ReadsOn t r asked input s n r input' e
   on-failed e f is = standing.failed (rw f at reads) refl is
@@ -54,7 +54,7 @@ module _ (t r : List ℕ) (asked : Bool) (input : List ℕ) (s : Stand) (r' : Li
       → Takes t r asked input s r' input' e
   on-taken shifted input' h other inside m on = standing.on (rw is at h) (omega (arith, other, inside)) (rw m at on)
 
--- Once a rehearsal has stood within the buffer, it does after each turn
+-- The places of a state lie within the buffer, after each turn
 module _ (t r : List ℕ) (asked : Bool) where
   read-stands : (input : List ℕ) (s : Stand) (n : ℕ) (r' input' : List ℕ) (e : Stand) → n ≤ length input → ReadsOn t r asked input s n r' input' e → (e .from ≤ e .held) × (e .held ≤ length input')
   read-stands input s n r' input' e h (standing.failed reads same is) = rw is (omega arith, omega (arith, reads .length-is))

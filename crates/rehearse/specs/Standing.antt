@@ -1,4 +1,4 @@
--- How a rehearsal stands: before the first line, after each turn, and at the end.
+-- The state of a rehearsal: before the first line, after each turn, and at the end.
 use Prim.Native.Nat.{ℕ, suc, _+_, _-_, _<_, _≤_, _^_}
 use mathlib.Core.Path.{_≡_}
 use mathlib.Core.Bool.{Bool, true, false, not, _&&_}
@@ -32,7 +32,7 @@ abbrev pub afterLine : Stand → ℕ → Turn → Bool → Stand
 afterLine s from turn printed =
     record { from = from; held = s .held; number = more (s .number); cycles = turn .cycles; going = printed && not (turn .ends); complete = false }
 
--- a line was answered, as the next of those that stand after s
+-- a line was answered in state s, with the next number
 pub record Goes (t r : List ℕ) (asked : Bool) (line : List ℕ) (s : Stand) (from : ℕ) (r' : List ℕ) (e : Stand) : Type 0 where
   pub out : List ℕ
   pub out' : List ℕ
@@ -58,7 +58,7 @@ upTo input s end = take (end - s .from) (drop (s .from) input)
 abbrev pub moved : List ℕ → Stand → List ℕ
 moved input s = sets input 0 (bytesAt input (s .from) (s .held - s .from))
 
--- One turn. A line that ends in the buffer is answered, and the input goes on after its line feed. Where none ends there, a buffer without room for more holds a line that is too long; else what is still to be answered moves to the buffer's beginning, and more is read
+-- One turn. A line that ends in the buffer is answered, and the input goes on after its line feed. Where no line ends there and the buffer is full, the line is too long; else what is still to be answered moves to the buffer's beginning, and more is read
 pub data Takes (t r : List ℕ) (asked : Bool) (input : List ℕ) (s : Stand) (r' input' : List ℕ) (e : Stand) : Type 0 where
   line : nextEnd input s < s .held → Goes t r asked (upTo input s (nextEnd input s)) s (nextEnd input s + 1) r' e → input' ≡ input → Takes t r asked input s r' input' e
   full : s .held ≤ nextEnd input s → s .held - s .from ≡ length input → Goes t r asked (upTo input s (s .held)) s (s .held) r' e → input' ≡ input
@@ -73,7 +73,7 @@ pub data Ran (t r : List ℕ) (asked : Bool) (input : List ℕ) : ℕ → List �
   further : (turns : ℕ) (r' input' r'' input'' : List ℕ) (s e : Stand) → Ran t r asked input turns r' input' s → s .going ≡ true
       → Takes t r' asked input' s r'' input'' e → Ran t r asked input (suc turns) r'' input'' e
 
--- a loop has to end, and nothing says that the input does: the turns are counted, up to a number that no run uses up
+-- a proved loop has to end, but the input need not: the turns are counted, up to a number that is too large to be reached
 abbrev pub maxTurns : ℕ
 maxTurns = 2 ^ 64 - 1
 
