@@ -41,13 +41,19 @@ same-length : tie.Need-same-length
 same-length c = search needs
 
 returns : tie.Need-returns
-returns c = read-brings _ (c .before .before .before .before .before .before .before .before .read .last .1 .0) _ _ _ (c .before .before .before .before .before .before .before .before .before .before .before .before .pre) (same-length c) (c .before .before .before .piece-of .ensures)
+returns c =
+    let made = c .before .before .before in
+    let read = made .before .before .before .before .before in
+    read-brings _ (read .read .last .1 .0) _ _ _ (read .before .before .before .before .pre) (same-length c) (made .piece-of .ensures)
 
 same-length-2 : tie.Need-same-length-2
 same-length-2 c = search needs
 
 returns-2 : tie.Need-returns-2
-returns-2 c = read-brings _ (c .before .before .before .before .before .before .before .read .last .1 .0) _ _ _ (c .before .before .before .before .before .before .before .before .before .before .before .pre) (same-length-2 c) (c .before .before .piece-of .ensures)
+returns-2 c =
+    let made = c .before .before in
+    let read = made .before .before .before .before .before in
+    read-brings _ (read .read .last .1 .0) _ _ _ (read .before .before .before .before .pre) (same-length-2 c) (made .piece-of .ensures)
 
 pub read-piece-spec : {M : Type 1} → statement M
 read-piece-spec =

@@ -28,22 +28,22 @@ enum-told : tie.Need-enum-told Inv-loop μ-loop
 enum-told c = search needs
 
 same-length : tie.Need-same-length Inv-loop μ-loop
-same-length c = read-length _ _ _ _ _ (c .before .before .before .before .before .before .before .loop .inv) (c .before .before .before .before .read-piece .ensures)
+same-length c = search read-length
 
 returns : tie.Need-returns Inv-loop μ-loop
-returns c = failed _ _ (c .before .before .before .before .before .before .before .loop .inv) (c .before .before .before .before .before .before .loop-test .taken) (c .before .before .before .before .read-piece .ensures) (c .enum-told .given .1)
+returns c = search failed
 
 same-length-2 : tie.Need-same-length-2 Inv-loop μ-loop
-same-length-2 c = read-length _ _ _ _ _ (c .before .before .before .before .before .before .before .before .before .loop .inv) (c .before .before .before .before .before .before .read-piece .ensures)
+same-length-2 c = search read-length
 
 returns-2 : tie.Need-returns-2 Inv-loop μ-loop
-returns-2 c = nothing-brought _ _ _ _ _ (c .before .before .before .before .before .before .before .before .before .loop .inv) (c .before .before .before .before .before .before .before .before .loop-test .taken) (c .before .before .before .before .before .before .read-piece .ensures) _ (c .before .before .piece .given .1) (c .if1 .taken)
+returns-2 c = search nothing-brought
 
 loop-less : tie.Need-loop-less Inv-loop μ-loop
-loop-less c = less-room _ _ _ _ _ (c .before .before .before .before .before .before .before .before .before .loop .inv) (c .before .before .before .before .before .before .before .before .loop-test .taken) (c .before .before .before .before .before .before .read-piece .ensures) _ (c .before .before .piece .given .1) (c .if1 .left)
+loop-less c = search less-room
 
 loop-again : tie.Need-loop-again Inv-loop μ-loop
-loop-again c = more-brought _ _ _ _ _ (c .before .before .before .before .before .before .before .before .before .loop .inv) (c .before .before .before .before .before .before .before .before .loop-test .taken) (c .before .before .before .before .before .before .read-piece .ensures) _ (c .before .before .piece .given .1) (c .if1 .left)
+loop-again c = search more-brought
 
 same-length-3 : tie.Need-same-length-3 Inv-loop μ-loop
 same-length-3 c = filled-inside _ _ _ (c .before .loop .inv) .0

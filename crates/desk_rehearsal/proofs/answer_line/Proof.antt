@@ -1,4 +1,4 @@
--- `answer_line` meets its contract: the line is heard, what it says is done, and the parts stand under it. A size of a table is a byte, so the text fits.
+-- `answer_line` meets its contract: the line is read, its call is made, and the marked parts stand under the answer. A size of a table is a byte, so the text fits.
 use Rattle.desk_rehearsal.proofs.Estimates.{hearing-fits}
 use Rattle.desk_rehearsal.proofs.Answered.{answer-room, answer-made}
 use native.Mathlib.Omega.{arith}
@@ -20,7 +20,10 @@ array-share-prefix-bytes : tie.Need-array-share-prefix-bytes
 array-share-prefix-bytes c = search hearing-fits
 
 slice-aggregate-make : tie.Need-slice-aggregate-make
-slice-aggregate-make c = simp length-take (omega (arith, hearing-fits _ _ _ _ (c .before .before .before .before .hear .ensures) (c .before .before .estimate-length .ensures)))
+slice-aggregate-make c =
+    let counted = c .before .before in
+    let heard = counted .before .before in
+    simp length-take (omega (arith, hearing-fits _ _ _ _ (heard .hear .ensures) (counted .estimate-length .ensures)))
 
 make-requires : tie.Need-make-requires
 make-requires c κs = search needs

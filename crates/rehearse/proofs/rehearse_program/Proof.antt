@@ -19,7 +19,10 @@ array-share-prefix-table : tie.Need-array-share-prefix-table
 array-share-prefix-table c = search opened-fits
 
 slice-aggregate-rehearse : tie.Need-slice-aggregate-rehearse
-slice-aggregate-rehearse c = simp length-take (omega (arith, opened-fits _ _ _ _ _ _ (c .before .before .before .before .open-program .ensures) (c .before .if1 .taken)))
+slice-aggregate-rehearse c =
+    let test = c .before in
+    let opening = test .before .before .before in
+    simp length-take (omega (arith, opened-fits _ _ _ _ _ _ (opening .open-program .ensures) (test .if1 .taken)))
 
 rehearse-requires : tie.Need-rehearse-requires
 rehearse-requires c κs = search needs
@@ -28,7 +31,10 @@ slice-aggregate-print : tie.Need-slice-aggregate-print
 slice-aggregate-print c = search needs
 
 print-requires : tie.Need-print-requires
-print-requires c κs = omega (arith, refusal-fits _ _ _ _ _ _ (c .before .before .before .before .open-program .ensures) (c .before .if1 .left))
+print-requires c κs =
+    let test = c .before in
+    let opening = test .before .before .before in
+    omega (arith, refusal-fits _ _ _ _ _ _ (opening .open-program .ensures) (test .if1 .left))
 
 returns : tie.Need-returns
 returns c = search needs

@@ -25,7 +25,7 @@ same-length : tie.Need-same-length
 same-length c = search needs
 
 returns : tie.Need-returns
-returns c = on-failed _ _ _ _ _ _ _ _ (c .before .before .before .before .before .read-piece .ensures) _ (c .before .enum-told .given .1) (c .read-to .ensures)
+returns c = search on-failed
 
 read-to-requires-2 : tie.Need-read-to-requires-2
 read-to-requires-2 c κs = search needs
@@ -34,13 +34,16 @@ same-length-2 : tie.Need-same-length-2
 same-length-2 c = search needs
 
 returns-2 : tie.Need-returns-2
-returns-2 c = on-brought _ _ _ _ _ _ _ _ (c .before .before .before .before .before .before .before .read-piece .ensures) _ _ (c .before .before .before .piece .given .1) (c .before .if1 .taken) (c .read-to2 .ensures)
+returns-2 c = search on-brought
 
 slice-reshare-prefix-answer : tie.Need-slice-reshare-prefix-answer
 slice-reshare-prefix-answer c = search needs
 
 slice-aggregate-answer : tie.Need-slice-aggregate-answer
-slice-aggregate-answer c = simp length-take (omega (arith, c .before .before .before .before .before .before .before .before .read-piece .ensures .length-is))
+slice-aggregate-answer c =
+    let piece = c .before .before .before .before in
+    let read = piece .before .before .before .before in
+    simp length-take (omega (arith, read .read-piece .ensures .length-is))
 
 answer-requires : tie.Need-answer-requires
 answer-requires c κs = search needs
@@ -55,7 +58,7 @@ same-length-4 : tie.Need-same-length-4
 same-length-4 c = search needs
 
 returns-3 : tie.Need-returns-3
-returns-3 c = on-ended _ _ _ _ _ _ _ _ (c .before .before .before .before .before .before .before .before .before .before .before .before .read-piece .ensures) _ _ _ _ (c .before .before .before .before .before .before .before .before .piece .given .1) (c .before .before .before .before .before .before .if1 .left) (c .before .before .before .before .before .before .before .before .before .before .before .before .before .before .before .before .before .before .pre) (c .before .before .before .answer .ensures) (c .ended .ensures)
+returns-3 c = search on-ended
 
 pub read-on-spec : {M : Type 1} → statement M
 read-on-spec =

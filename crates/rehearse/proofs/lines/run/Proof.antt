@@ -21,7 +21,7 @@ loop-holds : tie.Need-loop-holds Inv-loop μ-loop
 loop-holds c = (refl, (refl, (omega arith, rw (c .start .ensures) begun)))
 
 turn-requires : tie.Need-turn-requires Inv-loop μ-loop
-turn-requires c κs = ran-stands _ _ _ _ _ _ _ _ (c .before .before .before .before .loop .inv .1 .1 .1)
+turn-requires c κs = search ran-stands
 
 sub-turns : tie.Need-sub-turns Inv-loop μ-loop
 sub-turns c = omega arith
@@ -30,7 +30,14 @@ loop-less : tie.Need-loop-less Inv-loop μ-loop
 loop-less c = omega arith
 
 loop-again : tie.Need-loop-again Inv-loop μ-loop
-loop-again c = (c .before .before .before .before .turn .kept .1 .0 ∙ c .before .before .before .before .before .before .before .before .before .loop .inv .0, (c .before .before .before .before .turn .kept .1 .1 .1 .0 ∙ c .before .before .before .before .before .before .before .before .before .loop .inv .1 .0, (omega (arith, c .before .before .before .before .before .before .before .before .before .loop .inv .1 .1 .0), turn-more _ _ _ _ _ _ _ _ (c .before .before .before .before .before .before .before .before .before .loop .inv .1 .1 .1) _ _ _ (c .before .before .before .before .before .before .before .before .loop-test .taken) (c .before .before .before .before .before .before .before .before .before .loop .inv .1 .1 .0) (c .before .before .before .before .before .before .before .if1 .taken) (c .before .before .before .before .turn .ensures))))
+loop-again c =
+    let turned = c .before .before .before .before in
+    let going = turned .before .before .before in
+    let test = going .before in
+    let begun = test .before .loop .inv in
+    let turn-kept = turned .turn .kept .1 in
+    let ran = turn-more _ _ _ _ _ _ _ _ (begun .1 .1 .1) _ _ _ (test .loop-test .taken) (begun .1 .1 .0) (going .if1 .taken) (turned .turn .ensures) in
+    (turn-kept .0 ∙ begun .0, (turn-kept .1 .1 .0 ∙ begun .1 .0, (omega (arith, begun .1 .1 .0), ran)))
 
 same-length : tie.Need-same-length Inv-loop μ-loop
 same-length c = c .before .before .loop .inv .0
@@ -39,7 +46,7 @@ same-length-2 : tie.Need-same-length-2 Inv-loop μ-loop
 same-length-2 c = c .before .before .loop .inv .1 .0
 
 returns : tie.Need-returns Inv-loop μ-loop
-returns c = run-ends _ _ _ _ _ _ _ _ (c .before .before .loop .inv .1 .1 .1) (c .if1 .left)
+returns c = search run-ends
 
 same-length-3 : tie.Need-same-length-3 Inv-loop μ-loop
 same-length-3 c = c .before .loop .inv .0
@@ -48,7 +55,7 @@ same-length-4 : tie.Need-same-length-4 Inv-loop μ-loop
 same-length-4 c = c .before .loop .inv .1 .0
 
 returns-2 : tie.Need-returns-2 Inv-loop μ-loop
-returns-2 c = run-used _ _ _ _ _ _ _ _ (c .before .loop .inv .1 .1 .1) (c .loop-test .left)
+returns-2 c = search run-used
 
 pub run-spec : {M : Type 1} → statement M
 run-spec =

@@ -8,10 +8,10 @@ line-end-requires : tie.Need-line-end-requires
 line-end-requires c κs = search needs
 
 sub-answer : tie.Need-sub-answer
-sub-answer c = line-held _ _ _ _ (c .before .before .line-end .ensures) (c .before .before .before .before .before .before .before .pre .0)
+sub-answer c = search line-held
 
 part-answer-start : tie.Need-part-answer-start
-part-answer-start c = line-held _ _ _ _ (c .before .before .before .line-end .ensures) (c .before .before .before .before .before .before .before .before .pre .0)
+part-answer-start c = search line-held
 
 part-answer-end : tie.Need-part-answer-end
 part-answer-end c = search needs
@@ -29,7 +29,7 @@ same-length-2 : tie.Need-same-length-2
 same-length-2 c = search needs
 
 returns : tie.Need-returns
-returns c = line-taken _ _ _ _ _ _ _ _ (c .before .before .before .before .before .before .before .line-end .ensures) (c .before .before .before .before .before .before .if1 .taken) (c .before .before .answer .ensures)
+returns c = search line-taken
 
 sub-if2 : tie.Need-sub-if2
 sub-if2 c = search needs
@@ -53,7 +53,7 @@ same-length-4 : tie.Need-same-length-4
 same-length-4 c = search needs
 
 returns-2 : tie.Need-returns-2
-returns-2 c = full-taken _ _ _ _ (c .before .before .before .before .before .before .before .before .before .before .before .before .before .args .s) _ _ _ (c .before .before .before .before .before .before .before .before .line-end .ensures) (c .before .before .before .before .before .before .before .if1 .left) (c .before .before .before .before .before .before .if2 .taken) (c .before .before .answer2 .ensures)
+returns-2 c = search full-taken
 
 shift-requires : tie.Need-shift-requires
 shift-requires c κs = search needs
@@ -71,7 +71,7 @@ same-length-6 : tie.Need-same-length-6
 same-length-6 c = search needs
 
 returns-3 : tie.Need-returns-3
-returns-3 c = on-taken _ _ _ _ (c .before .before .before .before .before .before .before .before .before .before .before .before .before .before .before .before .before .before .args .s) _ _ _ (c .before .before .before .before .before .before .before .before .before .before .before .before .before .line-end .ensures) _ _ (c .before .before .before .before .before .before .before .before .before .before .before .before .if1 .left) (c .before .before .before .before .before .before .before .before .before .before .before .if2 .left) (c .before .before .before .before .before .before .before .before .before .before .before .before .before .before .before .before .before .before .pre .1) (c .before .before .before .before .before .before .before .before .before .shift .ensures) (c .before .before .before .before .read-on .ensures)
+returns-3 c = search on-taken
 
 pub turn-spec : {M : Type 1} → statement M
 turn-spec =
