@@ -1,7 +1,7 @@
 -- What a read brings: laws of `Reading`.
 use Prim.Native.Nat.{ℕ, _+_, _-_, _<_, _≤_, min}
 use native.Mathlib.Omega.{arith}
-use mathlib.Core.Path.{_≡_, refl, _∙_, ap}
+use mathlib.Core.Path.{_≡_, refl, sym, _∙_, ap}
 use mathlib.Core.Bool.{Bool, true, false, not, true≢false}
 use mathlib.Core.List.{List}
 use lib.Dec.{ltb→lt}
@@ -11,12 +11,12 @@ use mir.Val.{toZ, ofZ, SFits}
 use mir.ValLaws.{toZ-ofZ}
 use lib.Signed.{ltZ}
 use lib.ListN.{length}
-use borrow.Author.Tests.{le-ltb}
+use borrow.Author.Tests.{le-ltb, not-true, not-false}
 use borrow.Rule.Slice.PartMut.{putMid, midOf, mid-len, take-put}
 use Rattle.io.specs.Counts.{clamped}
 use Rattle.desk_input.specs.declared.Piece.{Piece}
 use Rattle.desk_input.specs.declared.Piece.the-variants.{Failed, Held}
-use Rattle.desk_input.specs.Reading.{isOpen, pieceOf, Reads, Filled, none, more, Whole, full, ended, failed}
+use Rattle.desk_input.specs.Reading.{isOpen, pieceOf, Reads, Filled, none, more, Whole, full, ended, failed, FileRead, unopened, opened, Within}
 
 open-of : (fd : ℤ) → not (ltZ fd (pos 0)) ≡ isOpen fd
 open-of (pos k) = rw (le-ltb k 0 (omega arith)) refl
@@ -83,6 +83,30 @@ held-within buf k b (failed n b₀ f h r e) = absurd (held-not-failed k e)
 
 pub whole-inside : (buf : List ℕ) (p : Piece) (k : ℕ) (b : List ℕ) → p ≡ Held k → Whole buf p b → k ≤ length b
 whole-inside buf p k b e w = held-within buf k b (rw e at w)
+
+pub file-inside : (buf : List ℕ) (p : Piece) (k : ℕ) (b : List ℕ) → p ≡ Held k → FileRead buf p b → k ≤ length b
+file-inside buf p k b e (unopened fd is-none is same) = absurd (held-not-failed k (sym e ∙ is))
+file-inside buf p k b e (opened fd is-one w) = whole-inside buf p k b e w
+
+-- and so for any piece
+pub whole-within : (buf : List ℕ) (p : Piece) (b : List ℕ) → Whole buf p b → Within p (length b)
+whole-within buf Failed b w = tt
+whole-within buf (Held k) b w = whole-inside buf (Held k) k b refl w
+
+pub file-within : (buf : List ℕ) (p : Piece) (b : List ℕ) → FileRead buf p b → Within p (length b)
+file-within buf Failed b r = tt
+file-within buf (Held k) b r = file-inside buf (Held k) k b refl r
+
+pub held-fits : (p : Piece) (k n : ℕ) → p ≡ Held k → Within p n → k ≤ n
+held-fits p k n e w = rw e at w
+
+-- by the test of the descriptor
+module _ (buf : List ℕ) (fd : ℤ) (b : Bool) (b-is : b ≡ isOpen fd) where
+  pub file-unopened : not b ≡ true → FileRead buf Failed buf
+  file-unopened h = unopened fd (sym b-is ∙ not-true b h) refl refl
+
+  pub file-opened : (p : Piece) (buf' : List ℕ) → not b ≡ false → Whole buf p buf' → FileRead buf p buf'
+  file-opened p buf' h w = opened fd (sym b-is ∙ not-false b h) w
 
 -- a read while there is room, after those that filled n bytes
 module _ (buf b b' : List ℕ) (n : ℕ) (p : Piece) (f : Filled buf n b) (room : n < length b) (r : Reads b n p b') where

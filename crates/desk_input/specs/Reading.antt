@@ -1,5 +1,5 @@
 -- What reads come to: how many bytes a buffer holds then.
-use Prim.Native.Nat.{ℕ, _+_, _-_, _<_, min}
+use Prim.Native.Nat.{ℕ, _+_, _-_, _<_, _≤_, min}
 use mathlib.Core.Path.{_≡_}
 use mathlib.Core.Bool.{Bool, true, false}
 use mathlib.Core.List.{List}
@@ -35,3 +35,13 @@ pub data Whole (buf : List ℕ) (piece : Piece) (buf' : List ℕ) : Type 0 where
   full : (n : ℕ) → Filled buf n buf' → n ≡ length buf' → piece ≡ Held n → Whole buf piece buf'
   ended : (n : ℕ) (b : List ℕ) → Filled buf n b → n < length b → Reads b n piece buf' → piece ≡ Held n → Whole buf piece buf'
   failed : (n : ℕ) (b : List ℕ) → Filled buf n b → n < length b → Reads b n piece buf' → piece ≡ Failed → Whole buf piece buf'
+
+-- a file that is opened and read: some number is the answer of opening it, and where that is no descriptor, nothing is read
+pub data FileRead (buf : List ℕ) (piece : Piece) (buf' : List ℕ) : Type 0 where
+  unopened : (fd : ℤ) → isOpen fd ≡ false → piece ≡ Failed → buf' ≡ buf → FileRead buf piece buf'
+  opened : (fd : ℤ) → isOpen fd ≡ true → Whole buf piece buf' → FileRead buf piece buf'
+
+-- what a read holds lies within a buffer of so many bytes
+abbrev pub Within : Piece → ℕ → Type 0
+Within Failed n = Unit {0}
+Within (Held k) n = k ≤ n

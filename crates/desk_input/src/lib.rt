@@ -3,7 +3,7 @@
 ghost use mathlib.Core.Path.{_≡_};
 ghost use Prim.Native.Nat.{_+_, _<_, _≤_, _^_};
 ghost use lib.ListN.{length};
-ghost use Rattle.desk_input.specs.Reading.{isOpen, pieceOf, Reads, Whole};
+ghost use Rattle.desk_input.specs.Reading.{isOpen, pieceOf, Reads, Whole, FileRead};
 
 // What a read comes to: it fails, or the buffer holds so many bytes.
 pub enum Piece {
@@ -58,4 +58,18 @@ pub fn read_whole(fd: i32, name: &[u8], buf: &mut [u8]) -> Piece
         n = k;
     }
     Piece::Held(n)
+}
+
+// Opens a file, reads it as `read_whole` does, and closes it. Where it cannot be opened, it says why.
+pub fn read_file(path: &[u8], buf: &mut [u8]) -> Piece
+    ensures { λ p. ⌜ FileRead (now (buf .entry)) p (now (buf .exit)) ⌝ }
+{
+    let fd = os::open_read(path);
+    if !is_open(fd) {
+        os::fail(path);
+        return Piece::Failed;
+    }
+    let piece = read_whole(fd, path, buf);
+    libc::close(fd);
+    piece
 }

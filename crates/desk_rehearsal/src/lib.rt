@@ -1,5 +1,4 @@
-// One line of a rehearsal: what it asks for is done, and what comes of it is written.
-pub mod asking;
+// One line of a rehearsal: it is read, its call is made, and the answer is written.
 pub mod hearing;
 pub mod opening;
 
@@ -19,14 +18,14 @@ ghost use Rattle.desk_rehearsal.specs.Rehearsal.{partsUnder, Answered, U
 // The longest line that can be a call.
 pub const MAX_LINE: usize = 4095;
 
-// What a program file has come to: whether it is read, and how long its table is, or else the text that
-// says why it is not.
+// Whether a program file is accepted, and the length of its table; where it is refused, the length of the text that
+// says why.
 pub struct Opened {
     pub accepted: bool,
     pub length: usize,
 }
 
-// Writes the marked parts under what a turn has written, where they are asked for.
+// Writes the marked parts after the text of a turn, where they are asked for.
 fn add_parts(t: &[u8], r: &[u8], asked: bool, turn: Turn, out: &mut [u8]) -> Turn
     requires { ⌜ turn .length + length (partsUnder asked (now t) (now r)) < 2 ^ 64 ⌝ }
     ensures { λ x. ⌜ Under asked (now (t .entry)) (now (r .entry)) turn (now (out .entry)) (now (out .exit)) x ⌝ }
@@ -42,8 +41,8 @@ fn add_parts(t: &[u8], r: &[u8], asked: bool, turn: Turn, out: &mut [u8]) -> Tur
     }
 }
 
-// Answers a line: makes its call on the record, and writes the answer into `out`, with the marked parts
-// under it where they are asked for. `cycles` is the count of cycles before it, `number` the line's.
+// Answers a line: makes its call on the record, and writes the answer into `out`, with the marked parts under it where
+// they are asked for. `cycles` is the count of cycles before the line, `number` the line's number.
 pub fn answer_line(
     t: &[u8],
     r: &mut [u8],
@@ -63,7 +62,7 @@ pub fn answer_line(
     add_parts(t, r, asked & is_call(x), turn, out)
 }
 
-// Writes what the run has come to, after the last line.
+// Writes the summary of a run, after its last line.
 pub fn summarise(t: &[u8], r: &[u8], cycles: u64, out: &mut [u8]) -> usize
     ensures { λ n. ⌜ Written (summaryText (now (t .entry)) (now (r .entry)) cycles) (now (out .entry)) 0 (now (out .exit)) n ⌝ }
     ensures { λ n. ⌜ n ≤ maxSummary ⌝ }

@@ -1,25 +1,25 @@
-// The calls on standard input, line by line.
+// Answers the calls on standard input, line by line.
 use desk_calls::pieces::line_end;
 use desk_calls::pieces::shift;
 use desk_dispatch::counting::one_more;
 use desk_input::Piece;
 use desk_input::read_piece;
+use desk_output::print;
 use desk_rehearsal::MAX_LINE;
 use desk_rehearsal::answer_line;
 use desk_rehearsal::summarise;
 use desk_transcript::MAX_ANSWER;
 use desk_transcript::MAX_SUMMARY;
 use libc::STDIN_FILENO;
-use libc::STDOUT_FILENO;
 use meaning::sizes::RECORD;
 ghost use mathlib.Core.Path.{_≡_};
 ghost use Prim.Native.Nat.{_≤_};
 ghost use lib.ListN.{length};
 ghost use Rattle.rehearse.specs.Standing.{starting, readTo, afterLast, Goes, ReadsOn, Takes, Runs};
 
-// Where a rehearsal stands: the bytes of the input buffer from place `from` on and before place
-// `held` are still to be answered, `number` lines have been, and `cycles` is the count of cycles.
-// Once it goes on no more, `complete` says whether no line ended it.
+// The state of a rehearsal. The input buffer holds `held` bytes, of which those from place `from` on are still to be
+// answered; `number` is how many lines are answered, and `cycles` the count of cycles. The rehearsal goes on while
+// `going` is true; after that `complete` says whether all of the input is answered.
 struct Stand {
     from: usize,
     held: usize,
@@ -29,18 +29,7 @@ struct Stand {
     complete: bool,
 }
 
-// Writes the first n bytes of a text to standard output, or says why not.
-pub(crate) fn print(text: &[u8], n: usize) -> bool
-    requires { ⌜ n ≤ length (now text) ⌝ }
-{
-    let is_written = io::write_all(STDOUT_FILENO, &text[..n]);
-    if !is_written {
-        os::fail(b"standard output");
-    }
-    is_written
-}
-
-// Answers a line. The input goes on at place `from`.
+// Answers a line and prints the answer. The next line begins at place `from`.
 fn answer(t: &[u8], r: &mut [u8], asked: bool, line: &[u8], s: Stand, from: usize) -> Stand
     ensures { λ e. ⌜ Goes (now (t .entry)) (now (r .entry)) asked (now (line .entry)) s from (now (r .exit)) e ⌝ }
 {
@@ -58,7 +47,7 @@ fn answer(t: &[u8], r: &mut [u8], asked: bool, line: &[u8], s: Stand, from: usiz
     }
 }
 
-// Before anything is read.
+// The state before anything is read.
 fn start() -> Stand
     ensures { λ e. ⌜ e ≡ starting ⌝ }
 {
@@ -72,7 +61,7 @@ fn start() -> Stand
     }
 }
 
-// After the last line: complete, unless that line ended the run.
+// The state after the last line: complete, unless that line ended the run.
 fn ended(s: Stand) -> Stand
     ensures { λ e. ⌜ e ≡ afterLast s ⌝ }
 {
@@ -86,7 +75,7 @@ fn ended(s: Stand) -> Stand
     }
 }
 
-// After a read: the buffer holds k bytes.
+// The state after a read: the buffer holds k bytes.
 fn read_to(s: Stand, k: usize, going: bool) -> Stand
     ensures { λ e. ⌜ e ≡ readTo s k going ⌝ }
 {
@@ -100,7 +89,8 @@ fn read_to(s: Stand, k: usize, going: bool) -> Stand
     }
 }
 
-// Reads on, after the first n bytes of the buffer. Where the input ends, they are its last line.
+// Reads more input after the first n bytes of the buffer. Where the input has ended, these bytes are its last line,
+// and are answered.
 fn read_on(t: &[u8], r: &mut [u8], asked: bool, input: &mut [u8], s: Stand, n: usize) -> Stand
     requires { ⌜ n ≤ length (now input) ⌝ }
     ensures { λ e. ⌜ ReadsOn (now (t .entry)) (now (r .entry)) asked (now (input .entry)) s n (now (r .exit)) (now (input .exit)) e ⌝ }
@@ -115,8 +105,8 @@ fn read_on(t: &[u8], r: &mut [u8], asked: bool, input: &mut [u8], s: Stand, n: u
     ended(answer(t, r, asked, &input[..n], s, 0))
 }
 
-// Answers the next line, or reads on where its end is not in the buffer. A buffer without room for
-// more holds a line that is too long.
+// Answers the next line, or reads more input where the line does not end in the buffer. Where the buffer is full, the
+// line is too long, and is answered without its end.
 fn turn(t: &[u8], r: &mut [u8], asked: bool, input: &mut [u8], s: Stand) -> Stand
     requires { ⌜ (s .from ≤ s .held) × (s .held ≤ length (now input)) ⌝ }
     ensures { λ e. ⌜ Takes (now (t .entry)) (now (r .entry)) asked (now (input .entry)) s (now (r .exit)) (now (input .exit)) e ⌝ }
@@ -134,8 +124,8 @@ fn turn(t: &[u8], r: &mut [u8], asked: bool, input: &mut [u8], s: Stand) -> Stan
     read_on(t, r, asked, input, s, held - from)
 }
 
-// Takes turns until the run goes on no more. A proved loop has to end, and nothing says that the
-// input does; so it counts its turns down, from a number that no run uses up.
+// Takes turns until the run ends. A proved loop has to end, but the input need not; so the turns are counted down, from
+// a number that is too large to be used up.
 fn run(t: &[u8], r: &mut [u8], asked: bool, input: &mut [u8]) -> Stand
     ensures { λ e. ⌜ Runs (now (t .entry)) (now (r .entry)) asked (now (input .entry)) (now (r .exit)) (now (input .exit)) e ⌝ }
 {
@@ -148,7 +138,7 @@ fn run(t: &[u8], r: &mut [u8], asked: bool, input: &mut [u8]) -> Stand
     s
 }
 
-// Answers every line of standard input, and then says what the run has come to.
+// Answers every line of standard input, and then prints the summary.
 pub(crate) fn rehearse(t: &[u8], asked: bool) {
     let mut r = [0u8; RECORD];
     let mut input = [0u8; MAX_LINE + 1];
@@ -158,7 +148,7 @@ pub(crate) fn rehearse(t: &[u8], asked: bool) {
     }
 }
 
-// Prints what the run has come to.
+// Prints the summary of a run.
 fn print_summary(t: &[u8], r: &[u8], cycles: u64) {
     let mut text = [0u8; MAX_SUMMARY];
     let n = summarise(t, r, cycles, &mut text);

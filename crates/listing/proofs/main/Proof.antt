@@ -1,51 +1,110 @@
--- `main` is safe: the text's buffer has room for the longest listing, so the part that is printed lies within it.
-use native.Mathlib.Omega.{arith}
+-- `main` is safe: what is read lies within the buffer.
+use Rattle.desk_input.proofs.Brought.{whole-within, file-within}
 use borrow.Author.Needs.{needs}
-use lib.ListN.{length-take}
 use Rattle.listing.proofs.main.Statement.{statement}
 use Rattle.listing.proofs.main.Tie as tie
 
-slice-aggregate-read-full : tie.Need-slice-aggregate-read-full
-slice-aggregate-read-full c = search needs
+slice-aggregate-arg : tie.Need-slice-aggregate-arg
+slice-aggregate-arg c = search needs
 
-read-full-requires : tie.Need-read-full-requires
-read-full-requires c κs = search needs
+arg-requires : tie.Need-arg-requires
+arg-requires c κs = search needs
 
-array-share-prefix-file : tie.Need-array-share-prefix-file
-array-share-prefix-file c = search needs
+errno-requires : tie.Need-errno-requires
+errno-requires c κs = search needs
 
-slice-aggregate-list : tie.Need-slice-aggregate-list
-slice-aggregate-list c = search needs
+is-cut-requires : tie.Need-is-cut-requires
+is-cut-requires c κs = search needs
 
-slice-aggregate-list-2 : tie.Need-slice-aggregate-list-2
-slice-aggregate-list-2 c = search needs
+arg-count-requires : tie.Need-arg-count-requires
+arg-count-requires c κs = search needs
 
-list-requires : tie.Need-list-requires
-list-requires c κs = search needs
+array-share-prefix-name : tie.Need-array-share-prefix-name
+array-share-prefix-name c = search needs
 
-array-share-prefix-text : tie.Need-array-share-prefix-text
-array-share-prefix-text c = search needs
+slice-aggregate-listing-request : tie.Need-slice-aggregate-listing-request
+slice-aggregate-listing-request c = search needs
 
-slice-aggregate-write-all : tie.Need-slice-aggregate-write-all
-slice-aggregate-write-all c = simp length-take (omega arith)
+listing-request-requires : tie.Need-listing-request-requires
+listing-request-requires c κs = search needs
 
-write-all-requires : tie.Need-write-all-requires
-write-all-requires c κs = search needs
+enum-told : tie.Need-enum-told
+enum-told c = search needs
+
+slice-aggregate-read-whole : tie.Need-slice-aggregate-read-whole
+slice-aggregate-read-whole c = search needs
+
+slice-aggregate-read-whole-2 : tie.Need-slice-aggregate-read-whole-2
+slice-aggregate-read-whole-2 c = search needs
+
+read-whole-requires : tie.Need-read-whole-requires
+read-whole-requires c κs = search needs
+
+slice-aggregate-print-listing : tie.Need-slice-aggregate-print-listing
+slice-aggregate-print-listing c = search needs
+
+print-listing-requires : tie.Need-print-listing-requires
+print-listing-requires c κs = search whole-within
+
+enum-told-2 : tie.Need-enum-told-2
+enum-told-2 c = search needs
+
+array-share-prefix-name-2 : tie.Need-array-share-prefix-name-2
+array-share-prefix-name-2 c = search needs
+
+slice-aggregate-read-file : tie.Need-slice-aggregate-read-file
+slice-aggregate-read-file c = search needs
+
+slice-aggregate-read-file-2 : tie.Need-slice-aggregate-read-file-2
+slice-aggregate-read-file-2 c = search needs
+
+read-file-requires : tie.Need-read-file-requires
+read-file-requires c κs = search needs
+
+slice-aggregate-print-listing-2 : tie.Need-slice-aggregate-print-listing-2
+slice-aggregate-print-listing-2 c = search needs
+
+print-listing-requires-2 : tie.Need-print-listing-requires-2
+print-listing-requires-2 c κs = search file-within
+
+print-message-requires : tie.Need-print-message-requires
+print-message-requires c κs = search needs
 
 returns : tie.Need-returns
 returns c = search needs
+
+returns-2 : tie.Need-returns-2
+returns-2 c = search needs
+
+returns-3 : tie.Need-returns-3
+returns-3 c = search needs
 
 pub main-spec : {M : Type 1} → statement M
 main-spec =
     tie.close
     (tie.spec
-    slice-aggregate-read-full
-    read-full-requires
-    array-share-prefix-file
-    slice-aggregate-list
-    slice-aggregate-list-2
-    list-requires
-    array-share-prefix-text
-    slice-aggregate-write-all
-    write-all-requires
-    returns)
+    slice-aggregate-arg
+    arg-requires
+    errno-requires
+    is-cut-requires
+    arg-count-requires
+    array-share-prefix-name
+    slice-aggregate-listing-request
+    listing-request-requires
+    enum-told
+    slice-aggregate-read-whole
+    slice-aggregate-read-whole-2
+    read-whole-requires
+    slice-aggregate-print-listing
+    print-listing-requires
+    enum-told-2
+    array-share-prefix-name-2
+    slice-aggregate-read-file
+    slice-aggregate-read-file-2
+    read-file-requires
+    slice-aggregate-print-listing-2
+    print-listing-requires-2
+    print-message-requires
+    returns
+    returns-2
+    returns-3)

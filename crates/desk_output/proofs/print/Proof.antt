@@ -2,8 +2,8 @@
 use native.Mathlib.Omega.{arith}
 use lib.ListN.{length-take}
 use borrow.Author.Needs.{needs}
-use Rattle.rehearse.proofs.lines.print.Statement.{statement}
-use Rattle.rehearse.proofs.lines.print.Tie as tie
+use Rattle.desk_output.proofs.print.Statement.{statement}
+use Rattle.desk_output.proofs.print.Tie as tie
 
 slice-aggregate-write-all : tie.Need-slice-aggregate-write-all
 slice-aggregate-write-all c = simp length-take (omega arith)

@@ -1,0 +1,66 @@
+-- `write_purpose` meets its contract: each command has its text.
+use mathlib.Core.Path.{ap}
+use Rattle.desk_format.proofs.Texts.{same-room, same-text}
+use Rattle.desk_arguments.specs.Messages.{purposeText}
+use borrow.Author.Needs.{needs}
+use Rattle.desk_arguments.proofs.messages.write_purpose.Statement.{statement}
+use Rattle.desk_arguments.proofs.messages.write_purpose.Tie as tie
+
+enum-told : tie.Need-enum-told
+enum-told c = search needs
+
+slice-aggregate-write-word : tie.Need-slice-aggregate-write-word
+slice-aggregate-write-word c = search needs
+
+write-word-requires : tie.Need-write-word-requires
+unfolding purposeText
+write-word-requires c κs =
+    let told = c .before .before in
+    same-room _ (ap purposeText (told .enum-told .given .1)) (told .before .before .before .pre)
+
+enum-told-2 : tie.Need-enum-told-2
+enum-told-2 c = search needs
+
+slice-aggregate-write-word-2 : tie.Need-slice-aggregate-write-word-2
+slice-aggregate-write-word-2 c = search needs
+
+write-word-requires-2 : tie.Need-write-word-requires-2
+unfolding purposeText
+write-word-requires-2 c κs =
+    let told = c .before .before in
+    same-room _ (ap purposeText (told .enum-told2 .given .1)) (told .before .before .before .pre)
+
+same-length : tie.Need-same-length
+same-length c = search needs
+
+returns : tie.Need-returns
+unfolding purposeText
+returns c =
+    let written = c .before .before in
+    let told = written .before .before .before in
+    same-text (ap purposeText (told .enum-told .given .1)) (written .write-word .ensures)
+
+same-length-2 : tie.Need-same-length-2
+same-length-2 c = search needs
+
+returns-2 : tie.Need-returns-2
+unfolding purposeText
+returns-2 c =
+    let written = c .before .before in
+    let told = written .before .before .before in
+    same-text (ap purposeText (told .enum-told2 .given .1)) (written .write-word2 .ensures)
+
+pub write-purpose-spec : {M : Type 1} → statement M
+write-purpose-spec =
+    tie.close
+    (tie.spec
+    enum-told
+    slice-aggregate-write-word
+    write-word-requires
+    enum-told-2
+    slice-aggregate-write-word-2
+    write-word-requires-2
+    same-length
+    returns
+    same-length-2
+    returns-2)
