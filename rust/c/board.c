@@ -66,9 +66,9 @@ enum {
     TIME_BEFORE_LAST,
     ESTIMATE_NOT_ALLOWED,
     RUN_FINISHED,
-    NOTHING_GOES_ON,
-    ACCEPTED = 256,
-    RUNNING = ACCEPTED,
+    NOTHING_AT_WORK,
+    ANSWERED = 256,
+    RUNNING = ANSWERED,
     JUST_FINISHED
 };
 
@@ -545,7 +545,7 @@ uint32_t board_offer(const uint8_t *table, size_t table_len, uint8_t *record, si
     record[PHASE] = OFFERED;
     write_time(record + TIME, time);
     offer_goals(table, record, goals);
-    return ACCEPTED + contested(goals, table[VARIABLES]);
+    return ANSWERED + contested(goals, table[VARIABLES]);
 }
 
 /* Whether nothing is marked inside a part. */
@@ -646,7 +646,7 @@ uint32_t board_settle(const uint8_t *table, size_t table_len, uint8_t *record, s
     settle_marks(table, record, estimate, after);
     bool finished = after[0] == 0;
     if (!finished && !goes_on(table, after))
-        return NOTHING_GOES_ON;
+        return NOTHING_AT_WORK;
     start_clocks(table, record);
     record[PHASE] = finished ? FINISHED : WAITING;
     memcpy(record + ESTIMATE, estimate, estimate_len);

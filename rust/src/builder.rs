@@ -1,6 +1,7 @@
 //! Programs written part by part, for tests that name each part.
 
-use crate::model::{Condition, Label, Part, Sizes, Test};
+use crate::parts::{Condition, Label, Part, Test};
+use crate::sizes::Sizes;
 
 pub fn goal(variable: u8, value: u16) -> Part {
     leaf(Label::Goal { variable, value })

@@ -3,7 +3,7 @@
 use std::hint::black_box;
 use std::ops::Range;
 
-use crate::cases::Rng;
+use crate::rng::Rng;
 
 /// Guard bytes on each side of a lent buffer.
 pub const GUARD_LEN: usize = 24;

@@ -1,9 +1,6 @@
-//! Where the fields of a run record stand, and what the bytes of an answer mean.
+//! Where the fields of a run record stand, and what its phase means.
 
-use crate::model::{MAX_CLOCKS, MAX_PARTS, MAX_VARIABLES};
-
-/// Bytes of a time.
-pub const TIME_LEN: usize = 4;
+use crate::sizes::{MAX_CLOCKS, MAX_PARTS, MAX_VARIABLES, TIME_LEN};
 
 /// The phase.
 pub const PHASE: usize = 0;
@@ -20,29 +17,39 @@ pub const MARKS: usize = STARTS + TIME_LEN * MAX_CLOCKS;
 /// Bytes of a record.
 pub const RECORD_LEN: usize = MARKS + MAX_PARTS;
 
-/// Phase: the run waits for an offer.
-pub const WAITING: u8 = 0;
-/// Phase: the goals are offered, and the run waits for a settling.
-pub const OFFERED: u8 = 1;
-/// Phase: the run is finished.
-pub const FINISHED: u8 = 2;
-
-/// Goal byte: no goal for this variable.
-pub const NO_GOAL: u8 = 255;
-/// Goal byte: goals for this variable differ.
-pub const CONTESTED: u8 = 254;
-/// An offer names this where no variable is contested.
-pub const NONE_CONTESTED: u8 = 255;
-
-/// Answers below this one are refusals. An accepted offer answers with this and the contested
-/// variable that it names.
-pub const ACCEPTED: u32 = 256;
-/// A settling answers that the run goes on.
-pub const RUNNING: u32 = ACCEPTED;
-/// A settling answers that the run has just finished.
-pub const JUST_FINISHED: u32 = ACCEPTED + 1;
-
 /// Where the start time of a clock stands.
 pub fn start_place(clock: usize) -> usize {
     STARTS + TIME_LEN * clock
+}
+
+/// Where a run stands within a cycle.
+#[derive(Clone, Copy, Debug, PartialEq, Eq)]
+pub enum Phase {
+    /// The run waits for an offer.
+    Waiting = 0,
+    /// The goals are offered, and the run waits for a settling.
+    Offered = 1,
+    /// The run is finished.
+    Finished = 2,
+}
+
+/// The bytes of the phases.
+pub const WAITING: u8 = Phase::Waiting as u8;
+pub const OFFERED: u8 = Phase::Offered as u8;
+pub const FINISHED: u8 = Phase::Finished as u8;
+
+impl Phase {
+    /// The phase with this byte, if there is one.
+    pub fn from_byte(byte: u8) -> Option<Phase> {
+        [Phase::Waiting, Phase::Offered, Phase::Finished]
+            .into_iter()
+            .find(|&phase| phase as u8 == byte)
+    }
+}
+
+/// The time that stands at this place.
+pub fn time_at(record: &[u8], place: usize) -> u32 {
+    let bytes = &record[place..place + TIME_LEN];
+    let number = |time, &byte: &u8| 256 * time + u32::from(byte);
+    bytes.iter().rev().fold(0, number)
 }

@@ -8,15 +8,18 @@
 mod program;
 mod table;
 
-use crate::model::{
-    ESTIMATE_NOT_ALLOWED, MAX_CLOCKS, MAX_PARTS, MAX_VALUE, MAX_VARIABLES, NONE, NOTHING_GOES_ON,
-    NOT_A_TABLE, OUTPUT_TOO_SHORT, OUT_OF_TURN, RECORD_NOT_ALLOWED, RUN_FINISHED, TIME_BEFORE_LAST,
+use crate::answers::{self, ANSWERED, CONTESTED, DONE, NO_GOAL, NO_VARIABLE};
+use crate::parts::{
+    AT_LEAST, CHOICE, DIFFERS, EQUALS, GOAL, MAINTAIN, PAR, REPEAT, SEQ, START, WAIT,
 };
 use crate::record::{
-    start_place, ACCEPTED, CONTESTED, ESTIMATE, FINISHED, JUST_FINISHED, MARKS, NONE_CONTESTED,
-    NO_GOAL, OFFERED, PHASE, RECORD_LEN, RUNNING, STARTED, TIME, TIME_LEN, WAITING,
+    start_place, ESTIMATE, FINISHED, MARKS, OFFERED, PHASE, RECORD_LEN, STARTED, TIME, WAITING,
 };
-use program::{AT_LEAST, CHOICE, DIFFERS, EQUALS, GOAL, MAINTAIN, PAR, REPEAT, SEQ, START, WAIT};
+use crate::refusals::{
+    BUFFER_TOO_SHORT, ESTIMATE_NOT_ALLOWED, NOTHING_AT_WORK, NOT_A_TABLE, RECORD_NOT_ALLOWED,
+    RUN_FINISHED, TIME_BEFORE_LAST, WRONG_PHASE,
+};
+use crate::sizes::{MAX_CLOCKS, MAX_PARTS, MAX_VALUE, MAX_VARIABLES, NO_PART, TIME_LEN};
 use table::Table;
 
 pub use table::{compile, decompile};
@@ -36,12 +39,12 @@ pub fn begin(table: &[u8], estimate: &[u8], record: &mut [u8]) -> u32 {
         return ESTIMATE_NOT_ALLOWED;
     }
     let Some(record) = record.first_chunk_mut::<RECORD_LEN>() else {
-        return OUTPUT_TOO_SHORT;
+        return BUFFER_TOO_SHORT;
     };
     record.fill(0);
     record[ESTIMATE..ESTIMATE + estimate.len()].copy_from_slice(estimate);
     table.initialise(0, &mut record[MARKS..]);
-    0
+    DONE
 }
 
 /// Offers the goals of a cycle: the refusal, or 256 and the contested variable that is named.
@@ -54,15 +57,15 @@ pub fn offer(table: &[u8], record: &mut [u8], time: u32, goals: &mut [u8]) -> u3
         return TIME_BEFORE_LAST;
     }
     let Some(goals) = goals.get_mut(..table.sizes.variables) else {
-        return OUTPUT_TOO_SHORT;
+        return BUFFER_TOO_SHORT;
     };
     record[PHASE] = OFFERED;
     record[TIME..TIME + TIME_LEN].copy_from_slice(&time.to_le_bytes());
     table.write_goals(record, goals);
     // The lowest contested variable is named.
     let contested = goals.iter().position(|&byte| byte == CONTESTED);
-    let named = contested.map_or(NONE_CONTESTED, |variable| variable as u8);
-    ACCEPTED + u32::from(named)
+    let named = contested.map_or(NO_VARIABLE, |variable| variable as u8);
+    ANSWERED + u32::from(named)
 }
 
 /// Settles a cycle: the refusal, or 256 while the run goes on and 257 when it has finished.
@@ -77,16 +80,16 @@ pub fn settle(table: &[u8], record: &mut [u8], estimate: &[u8]) -> u32 {
     let after = table.marks_after(record, estimate);
     let finished = after[0] == 0;
     if !finished && !table.goes_on(&after) {
-        return NOTHING_GOES_ON;
+        return NOTHING_AT_WORK;
     }
     table.start_clocks(record);
     record[PHASE] = if finished { FINISHED } else { WAITING };
     record[ESTIMATE..ESTIMATE + estimate.len()].copy_from_slice(estimate);
     record[MARKS..].copy_from_slice(&after);
     if finished {
-        JUST_FINISHED
+        answers::FINISHED
     } else {
-        RUNNING
+        answers::RUNNING
     }
 }
 
@@ -106,7 +109,7 @@ fn examine<'a, 'b>(
         return Err(RUN_FINISHED);
     }
     if record[PHASE] != phase {
-        return Err(OUT_OF_TURN);
+        return Err(WRONG_PHASE);
     }
     Ok((table, record))
 }
@@ -207,7 +210,7 @@ impl Table<'_> {
             };
             if ends {
                 after[part] = 0;
-                if self.next(part) != NONE {
+                if self.next(part) != NO_PART {
                     self.initialise(self.next(part), &mut after);
                 }
             }

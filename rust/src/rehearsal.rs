@@ -6,13 +6,24 @@
 
 use std::fmt::Write;
 
-use crate::cases::hex;
-use crate::model::RECORD_NOT_ALLOWED;
-use crate::record;
+use crate::hex::hex;
+use crate::record::{self, time_at};
+use crate::refusals::RECORD_NOT_ALLOWED;
 use crate::unfolding::{Offer, Program, Progress, Run};
 
 /// Bytes of the longest line that can be a call, without its line feed.
 pub const MAX_LINE: usize = 4095;
+
+/// What the program is given.
+#[derive(Clone, Debug)]
+pub struct Rehearsal {
+    /// The program file.
+    pub file: Vec<u8>,
+    /// The list of calls, as text.
+    pub calls: Vec<u8>,
+    /// Whether the marked parts stand under each answer.
+    pub with_parts: bool,
+}
 
 /// A call in a list of calls.
 #[derive(Clone, Debug, PartialEq, Eq)]
@@ -122,17 +133,17 @@ pub enum Answer {
     Settled(Progress),
 }
 
-/// A program that is rehearsed, and its run once a beginning was accepted.
-pub struct Rehearsal<'a> {
+/// A program, and the run of it that was begun last, if any was.
+pub struct LatestRun<'a> {
     program: &'a Program,
     run: Option<Run<'a>>,
 }
 
-impl<'a> Rehearsal<'a> {
-    /// A rehearsal before its first call.
-    pub fn new(program: &'a Program) -> Rehearsal<'a> {
+impl<'a> LatestRun<'a> {
+    /// No run has begun.
+    pub fn new(program: &'a Program) -> LatestRun<'a> {
         let run = None;
-        Rehearsal { program, run }
+        LatestRun { program, run }
     }
 
     /// The run that is going on or finished, if any has begun.
@@ -206,15 +217,6 @@ impl<'a> Rehearsal<'a> {
     }
 }
 
-/// The time that stands in this place.
-fn time_at(record: &[u8], place: usize) -> u32 {
-    let bytes = &record[place..][..record::TIME_LEN];
-    bytes
-        .iter()
-        .rev()
-        .fold(0, |time, &byte| 256 * time + u32::from(byte))
-}
-
 /// A number, or the sign that there is none.
 fn or_dash(number: Option<impl ToString>) -> String {
     number.map_or("-".to_string(), |number| number.to_string())
@@ -238,27 +240,28 @@ fn answer_line(answer: &Answer) -> String {
     }
 }
 
-/// All that `rehearse` prints for this program file and this list of calls, with the marked parts
-/// under each answer or without them.
-pub fn transcript(file: &[u8], calls: &[u8], with_parts: bool) -> String {
-    let program = match Program::read(file) {
-        Ok(program) => program,
-        Err(refusal) => return format!("refused {refusal}\n"),
-    };
-    let mut rehearsal = Rehearsal::new(&program);
-    let mut text = String::new();
-    // What stands behind the last line feed is a line too, and passed over where it is empty.
-    for (place, line) in calls.split(|&byte| byte == b'\n').enumerate() {
-        match read_line(line) {
-            Line::PassedOver => {}
-            Line::Call(call) => {
-                text += &answer_line(&rehearsal.call(&call));
-                if with_parts {
-                    text += &rehearsal.parts_line();
+impl Rehearsal {
+    /// All that `rehearse` prints.
+    pub fn transcript(&self) -> String {
+        let program = match Program::read(&self.file) {
+            Ok(program) => program,
+            Err(refusal) => return format!("refused {refusal}\n"),
+        };
+        let mut latest = LatestRun::new(&program);
+        let mut text = String::new();
+        // What stands behind the last line feed is a line too, and passed over where it is empty.
+        for (place, line) in self.calls.split(|&byte| byte == b'\n').enumerate() {
+            match read_line(line) {
+                Line::PassedOver => {}
+                Line::Call(call) => {
+                    text += &answer_line(&latest.call(&call));
+                    if self.with_parts {
+                        text += &latest.parts_line();
+                    }
                 }
+                Line::NoCall => return text + &format!("line {}: not a call\n", place + 1),
             }
-            Line::NoCall => return text + &format!("line {}: not a call\n", place + 1),
         }
+        text + &latest.summary()
     }
-    text + &rehearsal.summary()
 }

@@ -3,24 +3,25 @@
 //! The calls follow the run that they are for, so that it goes on, finishes and begins again. The
 //! text is written in every way that the format leaves free.
 
-use crate::cases::Rng;
-use crate::model::MAX_VALUE;
-use crate::rehearsal::{Answer, Call, Rehearsal};
+use crate::record::Phase;
+use crate::rehearsal::{Answer, Call, LatestRun};
+use crate::rng::Rng;
 use crate::runs::{self, Caller};
-use crate::unfolding::{Phase, Program, Run};
+use crate::sizes::{MAX_VALUE, MAX_VARIABLES};
+use crate::unfolding::{Program, Run};
 
 /// A list of so many calls for this program. The last line may lack its line feed.
 pub fn script(rng: &mut Rng, program: &Program, calls: usize) -> Vec<u8> {
-    let mut rehearsal = Rehearsal::new(program);
+    let mut latest = LatestRun::new(program);
     let mut caller = Caller::new(rng, program);
     let mut text = Vec::new();
     for _ in 0..calls {
         while rng.one_in(9) {
             push_line(&mut text, passed_over(rng));
         }
-        let call = next_call(rng, program, &rehearsal, &caller);
+        let call = next_call(rng, program, &latest, &caller);
         push_line(&mut text, &written(rng, &call));
-        match rehearsal.call(&call) {
+        match latest.call(&call) {
             Answer::Begun => caller = Caller::new(rng, program),
             Answer::Offered(offer) => caller.note_goals(&offer.goals),
             _ => {}
@@ -75,8 +76,8 @@ fn passed_over(rng: &mut Rng) -> &'static [u8] {
 }
 
 /// The next call: mostly one that the run is waiting for.
-fn next_call(rng: &mut Rng, program: &Program, rehearsal: &Rehearsal, caller: &Caller) -> Call {
-    let Some(run) = rehearsal.run() else {
+fn next_call(rng: &mut Rng, program: &Program, latest: &LatestRun, caller: &Caller) -> Call {
+    let Some(run) = latest.run() else {
         return first_call(rng, program);
     };
     let seldom = match run.phase {
@@ -102,7 +103,7 @@ fn first_call(rng: &mut Rng, program: &Program) -> Call {
     match rng.below(6) {
         0 => Call::Offer {
             time: rng.pick(&[0, 1, 1000, u32::MAX]),
-            length: rng.pick(&[None, Some(0), Some(32)]),
+            length: rng.pick(&[None, Some(0), Some(MAX_VARIABLES as u32)]),
         },
         1 => Call::Settle {
             estimate: runs::first_estimate(rng, program),
@@ -140,7 +141,7 @@ fn perhaps_long(rng: &mut Rng, estimate: Vec<u8>) -> Vec<u8> {
     if !rng.one_in(300) {
         return estimate;
     }
-    let len = rng.pick(&[33, 64, 255, 256, 257, 300]);
+    let len = rng.pick(&[MAX_VARIABLES + 1, 64, 255, 256, 257, 300]);
     let value = rng.between(0, usize::from(MAX_VALUE)) as u8;
     vec![value; len]
 }

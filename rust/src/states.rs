@@ -4,15 +4,15 @@
 //! to it: document 01's clauses on marks say of each kind what can remain of a part of that kind.
 //! So this is the paper's "allowed", said over the tree.
 
-use crate::model::MAX_VALUE;
-use crate::record;
-use crate::unfolding::{Phase, Program, Rest, Run, Tree};
+use crate::record::{self, time_at, Phase};
+use crate::sizes::MAX_VALUE;
+use crate::unfolding::{Program, Rest, Run, Tree};
 
 /// The state that a record holds, if it is allowed. Bytes behind the record do not count.
 pub fn read<'a>(program: &'a Program, bytes: &[u8]) -> Option<Run<'a>> {
     let bytes = bytes.get(..record::RECORD_LEN)?;
     let sizes = &program.sizes;
-    let phase = phase_of(bytes[record::PHASE])?;
+    let phase = Phase::from_byte(bytes[record::PHASE])?;
     let time = time_at(bytes, record::TIME);
     let estimate = front(&bytes[record::ESTIMATE..record::STARTED], sizes.variables)?;
     let clocks = clocks(bytes, sizes.clocks)?;
@@ -32,15 +32,6 @@ pub fn read<'a>(program: &'a Program, bytes: &[u8]) -> Option<Run<'a>> {
         settlings: 0,
         finishing_cycle: None,
     })
-}
-
-fn phase_of(byte: u8) -> Option<Phase> {
-    match byte {
-        record::WAITING => Some(Phase::Waiting),
-        record::OFFERED => Some(Phase::Offered),
-        record::FINISHED => Some(Phase::Finished),
-        _ => None,
-    }
 }
 
 /// The entries that the program has, if all beyond them are 0.
@@ -109,9 +100,4 @@ fn marked(tree: &Tree, children: Vec<Option<Rest>>, phase: Phase) -> Option<Rest
         Tree::Repeat(_) if left == 1 => Some(Rest::Repeat(first?)),
         _ => None,
     }
-}
-
-fn time_at(bytes: &[u8], place: usize) -> u32 {
-    let time = bytes[place..place + record::TIME_LEN].iter().rev();
-    time.fold(0, |time, &byte| 256 * time + u32::from(byte))
 }

@@ -3,9 +3,16 @@
 use std::thread::sleep;
 use std::time::Duration;
 
-use gurvoke::cases::{any_program, damaged_file, hex, program, random_file, Rng, Shape};
+use gurvoke::cases::{any_program, program, Shape};
+use gurvoke::damage::{damaged_file, random_file};
+use gurvoke::examples;
+use gurvoke::hex::hex;
 use gurvoke::model;
+use gurvoke::parts::{AT_LEAST, SEQ, WAIT};
 use gurvoke::programs::{feed, Program, NO_ARGUMENTS};
+use gurvoke::refusals::{SIZE_OUT_OF_RANGE, WRONG_LENGTH};
+use gurvoke::rng::Rng;
+use gurvoke::sizes::{MAX_DEPTH, MAX_FILE_LEN, MAX_PARTS};
 use gurvoke::stations::{repeats_above_goal, STATION_10, STATION_10_LISTING};
 
 const LISTING: Program = Program::named("listing");
@@ -25,25 +32,22 @@ fn assert_as_model(file: &[u8]) {
     assert_listing(file, &model::listing(file));
 }
 
+/// Expects this refusal from the program and from the model.
+fn assert_refused(file: &[u8], refusal: u32) {
+    assert_listing(file, &format!("{refusal}\n"));
+}
+
 #[test]
 fn refusals() {
-    assert_listing(&[], "1\n");
-    assert_listing(&[0x00, 0x01, 0x00], "2\n");
-    assert_listing(&[0x01, 0x01, 0x00, 0x01], "3\n");
-    assert_listing(&[1, 1, 0, 9, 0, 0, 0, 0], "4\n");
-    assert_listing(&[1, 1, 0, 1, 0, 1, 0, 0], "5\n");
-    assert_listing(&[1, 1, 0, 8, 0, 0, 0, 0], "6\n");
-    assert_listing(&repeats_above_goal(16), "7\n");
+    for (refusal, file) in examples::files() {
+        assert_refused(&file, refusal);
+    }
 }
 
 #[test]
 fn station_9() {
-    let mut text = String::from("16 1 0\n0 8 16 255 255 0 0 0 0\n");
-    for part in 1..=14 {
-        text += &format!("{part} 8 16 {} {part} 0 0 0 0\n", part - 1);
-    }
-    text += "15 1 16 14 15 0 0 0 0\n";
-    assert_listing(&repeats_above_goal(15), &text);
+    let text = include_str!("data/listings/station_9.out");
+    assert_listing(&repeats_above_goal(15), text);
 }
 
 #[test]
@@ -66,10 +70,10 @@ fn slow_input() {
 /// A SEQ of 199 WAITs, with numbers that are as long as they can be.
 #[test]
 fn longest_lines() {
-    let mut file = vec![200, 32, 16, 4];
-    file.extend([3; 199]);
+    let mut file = vec![200, 32, 16, SEQ];
+    file.extend([WAIT; 199]);
     file.extend([199, 0, 0, 0]);
-    file.extend([3, 15, 255, 255].repeat(199));
+    file.extend([AT_LEAST, 15, 255, 255].repeat(199));
 
     let mut text = String::from("200 32 16\n0 4 200 255 255 199 0 0 0\n");
     for part in 1..=198 {
@@ -83,8 +87,8 @@ fn longest_lines() {
 fn largest_programs() {
     let mut rng = Rng::new(200);
     for shape in [Shape::Deep, Shape::Wide, Shape::Mixed] {
-        let file = program(&mut rng, model::MAX_PARTS, model::MAX_DEPTH, shape).file();
-        assert_eq!(model::listing(&file).lines().count(), model::MAX_PARTS + 1);
+        let file = program(&mut rng, MAX_PARTS, MAX_DEPTH, shape).file();
+        assert_eq!(model::listing(&file).lines().count(), MAX_PARTS + 1);
         assert_as_model(&file);
     }
 }
@@ -93,17 +97,17 @@ fn largest_programs() {
 #[test]
 fn input_longer_than_any_file() {
     let mut rng = Rng::new(201);
-    let mut file = program(&mut rng, 200, 16, Shape::Mixed).file();
-    assert_eq!(file.len(), 1003);
+    let mut file = program(&mut rng, MAX_PARTS, MAX_DEPTH, Shape::Mixed).file();
+    assert_eq!(file.len(), MAX_FILE_LEN);
     file.push(0);
-    assert_listing(&file, "3\n");
+    assert_refused(&file, WRONG_LENGTH);
     file.resize(100_000, 0);
-    assert_listing(&file, "3\n");
-    assert_listing(&[0; 100_000], "2\n");
+    assert_refused(&file, WRONG_LENGTH);
+    assert_refused(&[0; 100_000], SIZE_OUT_OF_RANGE);
 
     let mut short = STATION_10.to_vec();
     short.resize(100_000, 0);
-    assert_listing(&short, "3\n");
+    assert_refused(&short, WRONG_LENGTH);
 }
 
 #[test]

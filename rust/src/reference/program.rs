@@ -1,21 +1,10 @@
 //! The rules for a program that stands in a file or in a table: which operands a kind allows, how
 //! many children a part has, and what follows it.
 
-use crate::model::{Kind, Sizes, Test, MAX_VALUE, NONE, OPERAND_LEN};
-
-pub const GOAL: u8 = Kind::Goal as u8;
-pub const START: u8 = Kind::Start as u8;
-pub const WAIT: u8 = Kind::Wait as u8;
-pub const SEQ: u8 = Kind::Seq as u8;
-pub const PAR: u8 = Kind::Par as u8;
-pub const MAINTAIN: u8 = Kind::Maintain as u8;
-pub const CHOICE: u8 = Kind::Choice as u8;
-pub const REPEAT: u8 = Kind::Repeat as u8;
-
-pub const EQUALS: u8 = Test::Equals as u8;
-pub const DIFFERS: u8 = Test::Differs as u8;
-pub const AT_LEAST: u8 = Test::AtLeast as u8;
-pub const BELOW: u8 = Test::Below as u8;
+use crate::parts::{
+    AT_LEAST, BELOW, CHOICE, DIFFERS, EQUALS, GOAL, MAINTAIN, PAR, REPEAT, SEQ, START, WAIT,
+};
+use crate::sizes::{Sizes, MAX_VALUE, NO_PART, OPERAND_LEN};
 
 /// The bytes of an operand.
 pub type Operand = [u8; OPERAND_LEN];
@@ -58,6 +47,6 @@ pub fn next_of(child: usize, end: usize, parent_kind: u8, is_last: bool) -> usiz
     match parent_kind {
         SEQ if !is_last => end,
         REPEAT => child,
-        _ => NONE,
+        _ => NO_PART,
     }
 }

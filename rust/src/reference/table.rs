@@ -1,21 +1,15 @@
 //! Location tables: read from a file, given back, and checked.
 
 use super::program::{child_count, kind_known, next_of, operand_allowed, Operand};
-use crate::model::{
-    Sizes, FILE_TOO_SHORT, MAX_DEPTH, MAX_PARTS, NONE, NOT_A_TABLE, NOT_ONE_TREE, NUMBER_LEN,
-    OPERAND_NOT_ALLOWED, OUTPUT_TOO_SHORT, ROW_LEN, SIZES_LEN, SIZE_OUT_OF_RANGE, TOO_DEEP,
-    UNKNOWN_KIND, WRONG_FILE_LENGTH,
+use crate::refusals::{
+    BUFFER_TOO_SHORT, FILE_TOO_SHORT, NOT_A_TABLE, NOT_ONE_TREE, OPERAND_NOT_ALLOWED,
+    SIZE_OUT_OF_RANGE, TOO_DEEP, UNKNOWN_KIND, WRONG_LENGTH,
 };
+use crate::sizes::row::{END, KIND, NEXT, OPERAND, PARENT};
+use crate::sizes::{Sizes, MAX_DEPTH, MAX_PARTS, NO_PART, NUMBER_LEN, ROW_LEN, SIZES_LEN};
 
 /// The bytes of a part in a table.
 type Row = [u8; ROW_LEN];
-
-/// Where the fields of a row stand.
-const KIND: usize = 0;
-const END: usize = KIND + 1;
-const PARENT: usize = END + NUMBER_LEN;
-const NEXT: usize = PARENT + NUMBER_LEN;
-const OPERAND: usize = NEXT + NUMBER_LEN;
 
 /// Reads a program file and writes its location table to the front of `table`.
 pub fn compile(file: &[u8], table: &mut [u8]) -> Result<(), u32> {
@@ -29,7 +23,7 @@ pub fn compile(file: &[u8], table: &mut [u8]) -> Result<(), u32> {
         return Err(TOO_DEEP);
     }
     let table = table.get_mut(..file.sizes.table_len());
-    file.write_table(extents, table.ok_or(OUTPUT_TOO_SHORT)?);
+    file.write_table(extents, table.ok_or(BUFFER_TOO_SHORT)?);
     Ok(())
 }
 
@@ -37,7 +31,7 @@ pub fn compile(file: &[u8], table: &mut [u8]) -> Result<(), u32> {
 pub fn decompile(table: &[u8], file: &mut [u8]) -> Result<(), u32> {
     let table = Table::read(table).ok_or(NOT_A_TABLE)?;
     let len = table.sizes.file_len();
-    let file = file.get_mut(..len).ok_or(OUTPUT_TOO_SHORT)?;
+    let file = file.get_mut(..len).ok_or(BUFFER_TOO_SHORT)?;
     table.write_file(file);
     Ok(())
 }
@@ -66,7 +60,7 @@ impl<'a> File<'a> {
             return Err(SIZE_OUT_OF_RANGE);
         }
         if bytes.len() != sizes.file_len() {
-            return Err(WRONG_FILE_LENGTH);
+            return Err(WRONG_LENGTH);
         }
         let (header, arrays) = bytes.split_at(SIZES_LEN);
         let (kinds, operands) = arrays.split_at(sizes.parts);
@@ -119,8 +113,8 @@ impl<'a> File<'a> {
         let (header, rows) = table.split_at_mut(SIZES_LEN);
         let (rows, _) = rows.as_chunks_mut();
         header.copy_from_slice(self.header);
-        put_number(&mut rows[0], PARENT, NONE);
-        put_number(&mut rows[0], NEXT, NONE);
+        put_number(&mut rows[0], PARENT, NO_PART);
+        put_number(&mut rows[0], NEXT, NO_PART);
         for (part, (kind, operand)) in self.entries().enumerate() {
             let end = usize::from(extents[part].end);
             rows[part][KIND] = kind;
@@ -185,7 +179,7 @@ impl<'a> Table<'a> {
     /// Whether kinds and operands are those of a file, and the rest is what they imply.
     fn rows_allowed(&self) -> bool {
         let parts = self.sizes.parts;
-        let root_allowed = (self.end(0), self.parent(0), self.next(0)) == (parts, NONE, NONE);
+        let root_allowed = (self.end(0), self.parent(0), self.next(0)) == (parts, NO_PART, NO_PART);
         let mut depths = [1; MAX_PARTS];
         root_allowed
             && (0..parts).all(|part| {

@@ -1,8 +1,17 @@
 //! The examples and stations of document 01, with the numbers and bytes that it gives.
 
-use gurvoke::cases::Rng;
+use gurvoke::examples::{self, Example};
 use gurvoke::model;
-use gurvoke::stations::{repeats_above_goal, STATION_10};
+use gurvoke::parts::{
+    AT_LEAST, BELOW, CHOICE, DIFFERS, EQUALS, GOAL, MAINTAIN, PAR, REPEAT, SEQ, START, WAIT,
+};
+use gurvoke::refusals::{
+    BUFFER_TOO_SHORT, FILE_TOO_SHORT, NOT_A_TABLE, NOT_ONE_TREE, OPERAND_NOT_ALLOWED,
+    SIZE_OUT_OF_RANGE, TOO_DEEP, UNKNOWN_KIND, WRONG_LENGTH,
+};
+use gurvoke::rng::Rng;
+use gurvoke::sizes::{file_len, table_len, MAX_PARTS, MAX_TABLE_LEN, SIZES_LEN};
+use gurvoke::stations::{repeats_above_goal, rows_of_repeats_above_goal, STATION_10};
 
 use crate::harness::{check_compile, check_decompile};
 
@@ -19,7 +28,7 @@ const STATION_10_TABLE: [u8; 27] = [
 ];
 
 /// More room than any table or file needs.
-const AMPLE: usize = 2000;
+const AMPLE: usize = 2 * MAX_TABLE_LEN;
 
 /// Expects a refusal from library and model.
 fn assert_file_refused(file: &[u8], table_len: usize, number: u32) {
@@ -62,64 +71,74 @@ fn file_of(variables: u8, clocks: u8, parts: &[(u8, [u8; 4])]) -> Vec<u8> {
 
 /// A SEQ of as many GOALs as make `parts` parts.
 fn seq_of_goals(parts: u8) -> Vec<u8> {
-    let mut list = vec![(4, [parts - 1, 0, 0, 0])];
-    list.resize(usize::from(parts), (1, [0; 4]));
+    let mut list = vec![(SEQ, [parts - 1, 0, 0, 0])];
+    list.resize(usize::from(parts), (GOAL, [0; 4]));
     file_of(1, 0, &list)
 }
 
 #[test]
 fn each_refusal_of_the_paper() {
-    assert_file_refused(&[], AMPLE, 1);
-    assert_file_refused(&[0x00, 0x01, 0x00], AMPLE, 2);
-    assert_file_refused(&[0x01, 0x01, 0x00, 0x01], AMPLE, 3);
-    assert_file_refused(&[1, 1, 0, 9, 0, 0, 0, 0], AMPLE, 4);
-    assert_file_refused(&[1, 1, 0, 1, 0, 1, 0, 0], AMPLE, 5);
-    assert_file_refused(&[1, 1, 0, 8, 0, 0, 0, 0], AMPLE, 6);
-    assert_file_refused(&repeats_above_goal(16), AMPLE, 7);
-    assert_file_refused(&ONE_GOAL, 10, 8);
-    assert_table_refused(&ONE_GOAL_TABLE, 7, 8);
-    assert_table_refused(&[0x01, 0x01, 0x00], AMPLE, 9);
+    for (refusal, example) in examples::all() {
+        match example {
+            Example::File(file) => assert_file_refused(&file, AMPLE, refusal),
+            Example::Buffer { file, table_len } => assert_file_refused(&file, table_len, refusal),
+            Example::Table(table) => assert_table_refused(&table, AMPLE, refusal),
+            // Of runs.
+            Example::Phase(_) | Example::Calls(_) => {}
+        }
+    }
+}
+
+/// One byte less than is needed.
+#[test]
+fn a_buffer_too_short_by_one() {
+    assert_file_refused(&ONE_GOAL, table_len(1) - 1, BUFFER_TOO_SHORT);
+    assert_table_refused(&ONE_GOAL_TABLE, file_len(1) - 1, BUFFER_TOO_SHORT);
 }
 
 /// Reading refuses 1 to 7 in this order, each over all parts, and then 8.
 #[test]
 fn the_earlier_refusal_wins() {
-    assert_file_refused(&[0x00, 0x00], 0, 1);
-    assert_file_refused(&[0x01, 0x00, 0x00, 0x09], 0, 2);
-    assert_file_refused(&[0x01, 0x01, 0x00, 0x09], 0, 3);
+    assert_file_refused(&[0x00, 0x00], 0, FILE_TOO_SHORT);
+    assert_file_refused(&[0x01, 0x00, 0x00, 0x09], 0, SIZE_OUT_OF_RANGE);
+    assert_file_refused(&[0x01, 0x01, 0x00, 0x09], 0, WRONG_LENGTH);
 
-    let bad_operand = (1, [1, 0, 0, 0]);
+    let bad_operand = (GOAL, [1, 0, 0, 0]);
     let unknown = (9, [0, 0, 0, 0]);
-    let lone_repeat = (8, [0, 0, 0, 0]);
-    assert_file_refused(&file_of(1, 0, &[bad_operand, unknown]), 0, 4);
+    let lone_repeat = (REPEAT, [0, 0, 0, 0]);
+    assert_file_refused(&file_of(1, 0, &[bad_operand, unknown]), 0, UNKNOWN_KIND);
     assert_file_refused(
         &file_of(1, 0, &[lone_repeat, lone_repeat, bad_operand]),
         0,
-        5,
+        OPERAND_NOT_ALLOWED,
     );
-    assert_file_refused(&file_of(1, 0, &[lone_repeat; 17]), 0, 6);
-    assert_file_refused(&repeats_above_goal(16), 0, 7);
-    assert_file_refused(&ONE_GOAL, 0, 8);
+    assert_file_refused(&file_of(1, 0, &[lone_repeat; 17]), 0, NOT_ONE_TREE);
+    assert_file_refused(&repeats_above_goal(16), 0, TOO_DEEP);
+    assert_file_refused(&ONE_GOAL, 0, BUFFER_TOO_SHORT);
 
-    assert_table_refused(&[], 0, 9);
-    assert_table_refused(&ONE_GOAL_TABLE[..10], 0, 9);
-    assert_table_refused(&ONE_GOAL_TABLE, 0, 8);
+    assert_table_refused(&[], 0, NOT_A_TABLE);
+    assert_table_refused(&ONE_GOAL_TABLE[..table_len(1) - 1], 0, NOT_A_TABLE);
+    assert_table_refused(&ONE_GOAL_TABLE, 0, BUFFER_TOO_SHORT);
 }
 
 #[test]
 fn sizes_at_their_limits() {
-    let goal = (1, [0; 4]);
+    let goal = (GOAL, [0; 4]);
     for (variables, clocks) in [(1, 0), (32, 0), (1, 16), (32, 16)] {
         let file = file_of(variables, clocks, &[goal]);
-        let table = [&[1, variables, clocks][..], &ONE_GOAL_TABLE[3..]].concat();
+        let table = [&[1, variables, clocks][..], &ONE_GOAL_TABLE[SIZES_LEN..]].concat();
         assert_pair(&file, &table);
     }
     for (variables, clocks) in [(0, 0), (33, 0), (1, 17), (255, 0), (1, 255)] {
-        assert_file_refused(&file_of(variables, clocks, &[goal]), AMPLE, 2);
+        assert_file_refused(
+            &file_of(variables, clocks, &[goal]),
+            AMPLE,
+            SIZE_OUT_OF_RANGE,
+        );
     }
-    assert_file_refused(&[0, 1, 0], AMPLE, 2);
-    assert_file_refused(&seq_of_goals(201), AMPLE, 2);
-    assert_file_refused(&seq_of_goals(255), AMPLE, 2);
+    assert_file_refused(&[0, 1, 0], AMPLE, SIZE_OUT_OF_RANGE);
+    assert_file_refused(&seq_of_goals(201), AMPLE, SIZE_OUT_OF_RANGE);
+    assert_file_refused(&seq_of_goals(255), AMPLE, SIZE_OUT_OF_RANGE);
 }
 
 #[test]
@@ -135,97 +154,101 @@ fn two_hundred_parts() {
 #[test]
 fn operands_at_their_limits() {
     let accepted: [(u8, [u8; 4]); 9] = [
-        (1, [0, 1, 250, 0]),
-        (2, [0, 0, 0, 0]),
-        (3, [1, 1, 250, 0]),
-        (3, [2, 0, 0, 0]),
-        (3, [3, 0, 255, 255]),
-        (3, [4, 0, 251, 0]),
-        (3, [4, 0, 0, 1]),
-        (1, [0, 0, 0, 0]),
-        (2, [0, 0, 0, 0]),
+        (GOAL, [0, 1, 250, 0]),
+        (START, [0, 0, 0, 0]),
+        (WAIT, [EQUALS, 1, 250, 0]),
+        (WAIT, [DIFFERS, 0, 0, 0]),
+        (WAIT, [AT_LEAST, 0, 255, 255]),
+        (WAIT, [BELOW, 0, 251, 0]),
+        (WAIT, [BELOW, 0, 0, 1]),
+        (GOAL, [0, 0, 0, 0]),
+        (START, [0, 0, 0, 0]),
     ];
     for (kind, operand) in accepted {
         let table = [&[1, 2, 1, kind, 1, 255, 255][..], &operand].concat();
         assert_pair(&file_of(2, 1, &[(kind, operand)]), &table);
     }
     let refused: [(u8, [u8; 4]); 20] = [
-        (1, [1, 0, 0, 0]),
-        (1, [0, 2, 0, 0]),
-        (1, [0, 0, 251, 0]),
-        (1, [0, 0, 0, 1]),
-        (2, [1, 0, 0, 0]),
-        (2, [0, 1, 0, 0]),
-        (2, [0, 0, 1, 0]),
-        (2, [0, 0, 0, 1]),
-        (3, [0, 0, 0, 0]),
-        (3, [5, 0, 0, 0]),
-        (3, [1, 2, 0, 0]),
-        (3, [2, 0, 251, 0]),
-        (3, [1, 0, 0, 1]),
-        (3, [3, 1, 0, 0]),
-        (4, [0, 0, 0, 0]),
-        (5, [0, 0, 0, 0]),
-        (4, [1, 1, 0, 0]),
-        (5, [1, 0, 1, 0]),
-        (6, [0, 0, 0, 0]),
-        (8, [1, 0, 0, 0]),
+        (GOAL, [1, 0, 0, 0]),
+        (GOAL, [0, 2, 0, 0]),
+        (GOAL, [0, 0, 251, 0]),
+        (GOAL, [0, 0, 0, 1]),
+        (START, [1, 0, 0, 0]),
+        (START, [0, 1, 0, 0]),
+        (START, [0, 0, 1, 0]),
+        (START, [0, 0, 0, 1]),
+        (WAIT, [0, 0, 0, 0]),
+        (WAIT, [5, 0, 0, 0]),
+        (WAIT, [EQUALS, 2, 0, 0]),
+        (WAIT, [DIFFERS, 0, 251, 0]),
+        (WAIT, [EQUALS, 0, 0, 1]),
+        (WAIT, [AT_LEAST, 1, 0, 0]),
+        (SEQ, [0, 0, 0, 0]),
+        (PAR, [0, 0, 0, 0]),
+        (SEQ, [1, 1, 0, 0]),
+        (PAR, [1, 0, 1, 0]),
+        (MAINTAIN, [0, 0, 0, 0]),
+        (REPEAT, [1, 0, 0, 0]),
     ];
     for (kind, operand) in refused {
-        assert_file_refused(&file_of(2, 1, &[(kind, operand)]), AMPLE, 5);
+        assert_file_refused(
+            &file_of(2, 1, &[(kind, operand)]),
+            AMPLE,
+            OPERAND_NOT_ALLOWED,
+        );
     }
     // A START needs a clock.
-    assert_file_refused(&file_of(1, 0, &[(2, [0; 4])]), AMPLE, 5);
+    assert_file_refused(
+        &file_of(1, 0, &[(START, [0; 4])]),
+        AMPLE,
+        OPERAND_NOT_ALLOWED,
+    );
 }
 
 #[test]
 fn parts_that_form_no_single_tree() {
-    let goal = (1, [0; 4]);
-    let repeat = (8, [0; 4]);
-    let choice = (7, [1, 0, 0, 0]);
+    let goal = (GOAL, [0; 4]);
+    let repeat = (REPEAT, [0; 4]);
+    let choice = (CHOICE, [EQUALS, 0, 0, 0]);
     let not_one_tree: [&[(u8, [u8; 4])]; 6] = [
         &[goal, goal],
         &[repeat, goal, goal],
         &[choice, goal],
-        &[(4, [2, 0, 0, 0]), goal],
-        &[(5, [255, 0, 0, 0]), goal],
+        &[(SEQ, [2, 0, 0, 0]), goal],
+        &[(PAR, [255, 0, 0, 0]), goal],
         &[repeat, repeat],
     ];
     for parts in not_one_tree {
-        assert_file_refused(&file_of(1, 0, parts), AMPLE, 6);
+        assert_file_refused(&file_of(1, 0, parts), AMPLE, NOT_ONE_TREE);
     }
 
     // Many more children asked for than a byte can count; in the second file 256 too many.
-    let most_children = (4, [255, 0, 0, 0]);
-    assert_file_refused(&file_of(1, 0, &[most_children; 200]), AMPLE, 6);
-    let mut parts = vec![most_children, (5, [200, 0, 0, 0])];
-    parts.resize(200, goal);
-    assert_file_refused(&file_of(1, 0, &parts), AMPLE, 6);
+    let most_children = (SEQ, [255, 0, 0, 0]);
+    assert_file_refused(
+        &file_of(1, 0, &[most_children; MAX_PARTS]),
+        AMPLE,
+        NOT_ONE_TREE,
+    );
+    let mut parts = vec![most_children, (PAR, [200, 0, 0, 0])];
+    parts.resize(MAX_PARTS, goal);
+    assert_file_refused(&file_of(1, 0, &parts), AMPLE, NOT_ONE_TREE);
 }
 
 #[test]
 fn as_deep_as_a_file_can_say() {
-    assert_file_refused(&repeats_above_goal(199), AMPLE, 7);
-    assert_file_refused(&file_of(1, 0, &[(8, [0; 4]); 200]), AMPLE, 6);
+    assert_file_refused(&repeats_above_goal(MAX_PARTS - 1), AMPLE, TOO_DEEP);
+    assert_file_refused(
+        &file_of(1, 0, &[(REPEAT, [0; 4]); MAX_PARTS]),
+        AMPLE,
+        NOT_ONE_TREE,
+    );
 }
 
 #[test]
 fn station_9() {
-    let mut table = vec![16, 1, 0, 8, 16, 255, 255, 0, 0, 0, 0];
-    for part in 1..=14 {
-        table.extend([8, 16, part - 1, part, 0, 0, 0, 0]);
-    }
-    table.extend([1, 16, 14, 15, 0, 0, 0, 0]);
-    assert_pair(&repeats_above_goal(15), &table);
-    assert_file_refused(&repeats_above_goal(16), AMPLE, 7);
-
-    // The rows of 16 REPEATs are the table of no file.
-    let mut too_deep = vec![17, 1, 0, 8, 17, 255, 255, 0, 0, 0, 0];
-    for part in 1..=15 {
-        too_deep.extend([8, 17, part - 1, part, 0, 0, 0, 0]);
-    }
-    too_deep.extend([1, 17, 15, 16, 0, 0, 0, 0]);
-    assert_table_refused(&too_deep, AMPLE, 9);
+    assert_pair(&repeats_above_goal(15), &rows_of_repeats_above_goal(15));
+    assert_file_refused(&repeats_above_goal(16), AMPLE, TOO_DEEP);
+    assert_table_refused(&rows_of_repeats_above_goal(16), AMPLE, NOT_A_TABLE);
 }
 
 #[test]
@@ -240,20 +263,20 @@ fn each_kind_in_one_table() {
         2,
         1,
         &[
-            (5, [4, 0, 0, 0]),     // 0 PAR
-            (6, [2, 0, 2, 0]),     // 1   MAINTAIN variable 0 differs from 2
-            (1, [0, 0, 1, 0]),     // 2     GOAL
-            (7, [3, 0, 0, 1]),     // 3   CHOICE clock 0 at least 256
-            (3, [4, 0, 5, 0]),     // 4     WAIT clock 0 below 5
-            (4, [1, 0, 0, 0]),     // 5     SEQ
-            (1, [0, 1, 250, 0]),   // 6       GOAL
-            (8, [0, 0, 0, 0]),     // 7   REPEAT
-            (4, [3, 0, 0, 0]),     // 8     SEQ
-            (2, [0, 0, 0, 0]),     // 9       START
-            (8, [0, 0, 0, 0]),     // 10      REPEAT
-            (3, [1, 1, 7, 0]),     // 11        WAIT
-            (1, [0, 0, 0, 0]),     // 12      GOAL
-            (3, [3, 0, 255, 255]), // 13  WAIT
+            (PAR, [4, 0, 0, 0]),             // 0 PAR
+            (MAINTAIN, [DIFFERS, 0, 2, 0]),  // 1   MAINTAIN variable 0 differs from 2
+            (GOAL, [0, 0, 1, 0]),            // 2     GOAL
+            (CHOICE, [AT_LEAST, 0, 0, 1]),   // 3   CHOICE clock 0 at least 256
+            (WAIT, [BELOW, 0, 5, 0]),        // 4     WAIT clock 0 below 5
+            (SEQ, [1, 0, 0, 0]),             // 5     SEQ
+            (GOAL, [0, 1, 250, 0]),          // 6       GOAL
+            (REPEAT, [0, 0, 0, 0]),          // 7   REPEAT
+            (SEQ, [3, 0, 0, 0]),             // 8     SEQ
+            (START, [0, 0, 0, 0]),           // 9       START
+            (REPEAT, [0, 0, 0, 0]),          // 10      REPEAT
+            (WAIT, [EQUALS, 1, 7, 0]),       // 11        WAIT
+            (GOAL, [0, 0, 0, 0]),            // 12      GOAL
+            (WAIT, [AT_LEAST, 0, 255, 255]), // 13  WAIT
         ],
     );
     let table = [
@@ -281,5 +304,5 @@ fn each_kind_in_one_table() {
 fn a_longer_table_is_none() {
     let mut table = STATION_10_TABLE.to_vec();
     table.push(0);
-    assert_table_refused(&table, AMPLE, 9);
+    assert_table_refused(&table, AMPLE, NOT_A_TABLE);
 }

@@ -1,9 +1,13 @@
 //! Calls of the executives that are compared with the model in every byte.
 
-use gurvoke::cases::{hex, Rng};
+use gurvoke::answers::DONE;
 use gurvoke::executive::{Executive, ALL};
+use gurvoke::hex::hex;
 use gurvoke::lent::Lent;
 use gurvoke::model;
+use gurvoke::refusals::NOT_A_TABLE;
+use gurvoke::rng::Rng;
+use gurvoke::sizes::{Sizes, MAX_TABLE_LEN};
 
 /// What a call answers.
 pub type Answer = Result<(), u32>;
@@ -111,10 +115,9 @@ pub fn check_file(rng: &mut Rng, tally: &mut Tally, file: &[u8]) -> Answer {
 }
 
 fn check_refused_file(rng: &mut Rng, tally: &mut Tally, file: &[u8]) -> Answer {
-    let longest = model::SIZES_LEN + model::ROW_LEN * model::MAX_PARTS;
-    let likely = model::Sizes::read(file).map_or(0, |sizes| sizes.table_len());
+    let likely = Sizes::read(file).map_or(0, |sizes| sizes.table_len());
     let mut answer = Ok(());
-    for table_len in [0, longest, likely] {
+    for table_len in [0, MAX_TABLE_LEN, likely] {
         answer = check_compile(rng, file, table_len);
         tally.note(answer);
     }
@@ -123,7 +126,7 @@ fn check_refused_file(rng: &mut Rng, tally: &mut Tally, file: &[u8]) -> Answer {
 
 /// Compares giving a table back into output buffers of every interesting length.
 pub fn check_table(rng: &mut Rng, tally: &mut Tally, table: &[u8]) -> Answer {
-    let likely = model::Sizes::read(table).map_or(0, |sizes| sizes.file_len());
+    let likely = Sizes::read(table).map_or(0, |sizes| sizes.file_len());
     let mut answer = Ok(());
     for file_len in interesting_lengths(rng, likely) {
         answer = check_decompile(rng, table, file_len);
@@ -134,7 +137,7 @@ pub fn check_table(rng: &mut Rng, tally: &mut Tally, table: &[u8]) -> Answer {
 
 /// Reads an accepted file and gives it back, with no model between.
 fn check_round_trip(file: &[u8]) {
-    let sizes = model::Sizes::read(file).expect("an accepted file has its sizes");
+    let sizes = Sizes::read(file).expect("an accepted file has its sizes");
     let mut table = vec![0; sizes.table_len()];
     let mut again = vec![0; file.len()];
     assert_eq!(gurvoke::compile(file, &mut table), Ok(()), "{}", hex(file));
@@ -160,24 +163,27 @@ fn interesting_lengths(rng: &mut Rng, exact: usize) -> [usize; 5] {
     [0, short, exact.saturating_sub(1), longer, exact]
 }
 
+/// The last refusal that reading or giving back can get.
+const LAST_REFUSAL: usize = NOT_A_TABLE as usize;
+
 /// How often each answer was given.
 #[derive(Default)]
 pub struct Tally {
-    counts: [u64; 10],
+    counts: [u64; LAST_REFUSAL + 1],
 }
 
 impl Tally {
     pub fn note(&mut self, answer: Answer) {
-        let number = answer.err().unwrap_or(0);
+        let number = answer.err().unwrap_or(DONE);
         self.counts[number as usize] += 1;
     }
 
-    /// Fails unless each answer named (0: accepted) was given at least so often.
-    pub fn require(&self, name: &str, minimums: &[(usize, u64)]) {
+    /// Fails unless each answer named was given at least so often.
+    pub fn require(&self, name: &str, minimums: &[(u32, u64)]) {
         let total: u64 = self.counts.iter().sum();
         println!("{name}: {total} calls, by answer {:?}", self.counts);
         for &(answer, minimum) in minimums {
-            let count = self.counts[answer];
+            let count = self.counts[answer as usize];
             assert!(
                 count >= minimum,
                 "{name}: answer {answer} came {count} times, and should at least {minimum} times"
@@ -186,7 +192,10 @@ impl Tally {
     }
 
     /// Fails unless the answer named was given exactly so often.
-    pub fn require_exactly(&self, name: &str, answer: usize, count: u64) {
-        assert_eq!(self.counts[answer], count, "{name}: answer {answer}");
+    pub fn require_exactly(&self, name: &str, answer: u32, count: u64) {
+        assert_eq!(
+            self.counts[answer as usize], count,
+            "{name}: answer {answer}"
+        );
     }
 }

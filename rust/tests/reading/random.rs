@@ -1,12 +1,35 @@
 //! Random programs, files and tables, valid and damaged.
 
-use gurvoke::cases::{
-    any_program, damaged_file, damaged_table, hex, program, random_file, random_table, wrap_rows,
-    Rng, Shape,
-};
+use gurvoke::answers::DONE;
+use gurvoke::cases::{any_program, program, Shape};
+use gurvoke::damage::{damaged_file, damaged_table, random_file, random_table, wrap_rows};
+use gurvoke::hex::hex;
 use gurvoke::model;
+use gurvoke::refusals::{
+    BUFFER_TOO_SHORT, FILE_TOO_SHORT, NOT_A_TABLE, NOT_ONE_TREE, OPERAND_NOT_ALLOWED,
+    SIZE_OUT_OF_RANGE, TOO_DEEP, UNKNOWN_KIND, WRONG_LENGTH,
+};
+use gurvoke::rng::Rng;
+use gurvoke::sizes::{Sizes, MAX_DEPTH, MAX_PARTS};
 
 use crate::harness::{check_compile, check_decompile, check_file, check_table, Tally};
+
+/// The answers that readings of small files get; only a deep one is too deep.
+const COMMON_ANSWERS: [u32; 8] = [
+    DONE,
+    FILE_TOO_SHORT,
+    SIZE_OUT_OF_RANGE,
+    WRONG_LENGTH,
+    UNKNOWN_KIND,
+    OPERAND_NOT_ALLOWED,
+    NOT_ONE_TREE,
+    BUFFER_TOO_SHORT,
+];
+
+/// How often each of many answers must come at least.
+fn often(answer: u32) -> (u32, u64) {
+    (answer, 500)
+}
 
 /// Programs that are valid by the way they are made.
 #[test]
@@ -22,12 +45,15 @@ fn valid_programs() {
         assert_eq!(answer, Ok(()), "valid program {}", hex(&file));
         let program = model::read(&file).expect("accepted just before");
         smallest += usize::from(program.sizes.parts == 1);
-        largest += usize::from(program.sizes.parts == model::MAX_PARTS);
-        deepest += usize::from(program.root.depth() == model::MAX_DEPTH);
+        largest += usize::from(program.sizes.parts == MAX_PARTS);
+        deepest += usize::from(program.root.depth() == MAX_DEPTH);
     }
     println!("{smallest} with one part, {largest} with most parts, {deepest} of greatest depth");
     assert!(smallest >= 500 && largest >= 300 && deepest >= 1000);
-    tally.require("valid programs", &[(0, 60_000), (8, 60_000)]);
+    tally.require(
+        "valid programs",
+        &[(DONE, 60_000), (BUFFER_TOO_SHORT, 60_000)],
+    );
 }
 
 /// Deep programs: accepted up to the depth allowed, refused below it, as files and as tables.
@@ -35,19 +61,22 @@ fn valid_programs() {
 fn depths_about_the_limit() {
     let mut rng = Rng::new(101);
     let mut tally = Tally::default();
-    for depth in model::MAX_DEPTH - 1..=model::MAX_DEPTH + 2 {
+    for depth in MAX_DEPTH - 1..=MAX_DEPTH + 2 {
         for _ in 0..2500 {
-            let parts = rng.between(2 * depth, model::MAX_PARTS);
+            let parts = rng.between(2 * depth, MAX_PARTS);
             let file = program(&mut rng, parts, depth, Shape::Deep).file();
-            let expected = match depth <= model::MAX_DEPTH {
+            let expected = match depth <= MAX_DEPTH {
                 true => Ok(()),
-                false => Err(model::TOO_DEEP),
+                false => Err(TOO_DEEP),
             };
             let answer = check_file(&mut rng, &mut tally, &file);
             assert_eq!(answer, expected, "depth {depth}: {}", hex(&file));
         }
     }
-    tally.require("depths about the limit", &[(0, 5000), (7, 10_000)]);
+    tally.require(
+        "depths about the limit",
+        &[(DONE, 5000), (TOO_DEEP, 10_000)],
+    );
 }
 
 /// The rows of a program with a REPEAT put above it: a table unless it is too deep or too long.
@@ -60,23 +89,19 @@ fn tables_about_the_limits() {
         let inner = model::read(&file).expect("a valid program");
         let mut rows = inner.rows();
         wrap_rows(&mut rows);
-        let sizes = model::Sizes {
+        let sizes = Sizes {
             parts: rows.len(),
             ..inner.sizes
         };
         let table = model::table_bytes(&sizes, &rows);
-        let fits = rows.len() <= model::MAX_PARTS && inner.root.depth() < model::MAX_DEPTH;
-        let expected = if fits {
-            Ok(())
-        } else {
-            Err(model::NOT_A_TABLE)
-        };
+        let fits = rows.len() <= MAX_PARTS && inner.root.depth() < MAX_DEPTH;
+        let expected = if fits { Ok(()) } else { Err(NOT_A_TABLE) };
         let answer = check_table(&mut rng, &mut tally, &table);
         assert_eq!(answer, expected, "{}", hex(&table));
     }
     tally.require(
         "tables about the limits",
-        &[(0, 2000), (8, 2000), (9, 1000)],
+        &[(DONE, 2000), (BUFFER_TOO_SHORT, 2000), (NOT_A_TABLE, 1000)],
     );
 }
 
@@ -89,7 +114,8 @@ fn damaged_files() {
         let file = damaged_file(&mut rng, &draft);
         check_any_file(&mut rng, &mut tally, &file);
     }
-    let often = [0, 1, 2, 3, 4, 5, 6, 7, 8].map(|answer| (answer, 500));
+    let answers = [&COMMON_ANSWERS[..], &[TOO_DEEP]].concat();
+    let often: Vec<(u32, u64)> = answers.into_iter().map(often).collect();
     tally.require("damaged files", &often);
 }
 
@@ -101,8 +127,7 @@ fn random_files() {
         let file = random_file(&mut rng);
         check_any_file(&mut rng, &mut tally, &file);
     }
-    let often = [0, 1, 2, 3, 4, 5, 6, 8].map(|answer| (answer, 500));
-    tally.require("random files", &often);
+    tally.require("random files", &COMMON_ANSWERS.map(often));
 }
 
 #[test]
@@ -115,7 +140,14 @@ fn damaged_tables() {
         let table = damaged_table(&mut rng, &program);
         check_any_table(&mut rng, &mut tally, &table);
     }
-    tally.require("damaged tables", &[(0, 2000), (8, 2000), (9, 20_000)]);
+    tally.require(
+        "damaged tables",
+        &[
+            (DONE, 2000),
+            (BUFFER_TOO_SHORT, 2000),
+            (NOT_A_TABLE, 20_000),
+        ],
+    );
 }
 
 #[test]
@@ -126,7 +158,10 @@ fn random_tables() {
         let table = random_table(&mut rng);
         check_any_table(&mut rng, &mut tally, &table);
     }
-    tally.require("random tables", &[(0, 200), (8, 200), (9, 20_000)]);
+    tally.require(
+        "random tables",
+        &[(DONE, 200), (BUFFER_TOO_SHORT, 200), (NOT_A_TABLE, 20_000)],
+    );
 }
 
 /// Compares one call into a buffer of random length or, for one file in ten, all that can be done
@@ -136,7 +171,7 @@ fn check_any_file(rng: &mut Rng, tally: &mut Tally, file: &[u8]) {
         _ = check_file(rng, tally, file);
         return;
     }
-    let exact = model::Sizes::read(file).map_or(0, |sizes| sizes.table_len());
+    let exact = Sizes::read(file).map_or(0, |sizes| sizes.table_len());
     let table_len = random_length(rng, exact);
     tally.note(check_compile(rng, file, table_len));
 }
@@ -147,7 +182,7 @@ fn check_any_table(rng: &mut Rng, tally: &mut Tally, table: &[u8]) {
         _ = check_table(rng, tally, table);
         return;
     }
-    let exact = model::Sizes::read(table).map_or(0, |sizes| sizes.file_len());
+    let exact = Sizes::read(table).map_or(0, |sizes| sizes.file_len());
     let file_len = random_length(rng, exact);
     tally.note(check_decompile(rng, table, file_len));
 }

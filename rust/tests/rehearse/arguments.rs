@@ -3,51 +3,52 @@
 use std::ffi::OsStr;
 
 use gurvoke::builder::{file, goal, par};
-use gurvoke::cases::{any_program, damaged_file, random_file, Rng};
-use gurvoke::model::MAX_PARTS;
+use gurvoke::cases::any_program;
+use gurvoke::damage::{damaged_file, random_file};
+use gurvoke::examples;
 use gurvoke::programs::{free_path, TemporaryFile};
+use gurvoke::refusals::{FILE_TOO_SHORT, SIZE_OUT_OF_RANGE, WRONG_LENGTH};
+use gurvoke::rehearsal::Rehearsal;
+use gurvoke::rng::Rng;
 use gurvoke::scripts::script;
-use gurvoke::stations::repeats_above_goal;
+use gurvoke::sizes::{MAX_FILE_LEN, MAX_PARTS};
+use gurvoke::stations::STATION_1;
 use gurvoke::unfolding::Program;
 
-use crate::harness::{assert_same, Rehearsal, Tally, REHEARSE};
+use crate::harness::{arguments, assert_both, assert_same, Tally, REHEARSE};
 
 const CALLS: &[u8] = b"begin 00\noffer 7\nsettle 01\n";
 
-/// Expects this text from a rehearsal of this file, with the marked parts and without.
-fn assert_text(file: &[u8], text: &str) {
+/// Expects that a rehearsal of this file prints its refusal and no more, with the marked parts and
+/// without.
+fn assert_refused(file: &[u8], refusal: u32) {
     for with_parts in [false, true] {
         let rehearsal = Rehearsal {
             file: file.to_vec(),
             calls: CALLS.to_vec(),
             with_parts,
         };
-        rehearsal.assert_model(text);
-        rehearsal.assert_program(text);
+        assert_both(&rehearsal, &format!("refused {refusal}\n"));
     }
 }
 
 #[test]
 fn refused_programs() {
-    assert_text(&[], "refused 1\n");
-    assert_text(&[0x01, 0x01], "refused 1\n");
-    assert_text(&[0x00, 0x01, 0x00], "refused 2\n");
-    assert_text(&[0x01, 0x01, 0x00, 0x01], "refused 3\n");
-    assert_text(&[1, 1, 0, 9, 0, 0, 0, 0], "refused 4\n");
-    assert_text(&[1, 1, 0, 1, 0, 1, 0, 0], "refused 5\n");
-    assert_text(&[1, 1, 0, 8, 0, 0, 0, 0], "refused 6\n");
-    assert_text(&repeats_above_goal(16), "refused 7\n");
+    for (refusal, file) in examples::files() {
+        assert_refused(&file, refusal);
+    }
+    assert_refused(&[0x01, 0x01], FILE_TOO_SHORT);
 }
 
 /// All of the file counts, however long it is.
 #[test]
 fn files_longer_than_any_program() {
-    let mut file = file(1, 1, &goal(0, 1));
+    let mut file = STATION_1.to_vec();
     file.push(0);
-    assert_text(&file, "refused 3\n");
+    assert_refused(&file, WRONG_LENGTH);
     file.resize(100_000, 0);
-    assert_text(&file, "refused 3\n");
-    assert_text(&[0; 100_000], "refused 2\n");
+    assert_refused(&file, WRONG_LENGTH);
+    assert_refused(&[0; 100_000], SIZE_OUT_OF_RANGE);
 }
 
 /// The longest file there is, and the same with one byte more.
@@ -55,25 +56,16 @@ fn files_longer_than_any_program() {
 fn longest_file() {
     let goals = vec![goal(0, 1); MAX_PARTS - 1];
     let mut file = file(1, 0, &par(goals));
-    assert_eq!(file.len(), 1003);
-    let text = "\
-begun
-goals 01 named none
-finished
-phase 2
-last time 7
-estimate 01
-finishing cycle 1
-";
+    assert_eq!(file.len(), MAX_FILE_LEN);
     let rehearsal = Rehearsal {
         file: file.clone(),
         calls: CALLS.to_vec(),
         with_parts: false,
     };
-    rehearsal.assert_model(text);
-    rehearsal.assert_program(text);
+    let text = include_str!("../data/rehearsals/longest_file.out");
+    assert_both(&rehearsal, text);
     file.push(0);
-    assert_text(&file, "refused 3\n");
+    assert_refused(&file, WRONG_LENGTH);
 }
 
 /// Damaged and random files. Those that are accepted are rehearsed.
@@ -134,7 +126,7 @@ fn missing_file() {
 
 #[test]
 fn second_argument_that_is_not_parts() {
-    let file = TemporaryFile::holding(&file(1, 1, &goal(0, 1)));
+    let file = TemporaryFile::holding(&STATION_1);
     let long = "parts".repeat(1000);
     let words = [
         "", "p", "part", "partss", "parts ", " parts", "PARTS", "Parts", "marks", "parts000", &long,
@@ -146,7 +138,7 @@ fn second_argument_that_is_not_parts() {
 
 #[test]
 fn arguments_after_the_last() {
-    let file = TemporaryFile::holding(&file(1, 1, &goal(0, 1)));
+    let file = TemporaryFile::holding(&STATION_1);
     let path = file.path().as_os_str();
     for word in ["parts", ""] {
         assert_nothing(&[path, OsStr::new("parts"), OsStr::new(word)]);
@@ -158,7 +150,7 @@ fn arguments_after_the_last() {
 #[test]
 fn long_path() {
     let rehearsal = Rehearsal {
-        file: file(1, 1, &goal(0, 1)),
+        file: STATION_1.to_vec(),
         calls: CALLS.to_vec(),
         with_parts: true,
     };
@@ -167,7 +159,7 @@ fn long_path() {
     let name = file.path().file_name().expect("a name");
     for steps in [1, 100, 1000, 1900] {
         let path = folder.join("./".repeat(steps)).join(name);
-        let text = REHEARSE.run(&rehearsal.arguments(&path), CALLS);
-        assert_same("program", &text, &rehearsal.model(), &rehearsal);
+        let text = REHEARSE.run(&arguments(&rehearsal, &path), CALLS);
+        assert_same("program", &text, &rehearsal.transcript(), &rehearsal);
     }
 }

@@ -4,58 +4,44 @@ use std::collections::BTreeMap;
 use std::ffi::OsStr;
 use std::path::Path;
 
-use gurvoke::cases::hex;
+use gurvoke::hex::hex;
 use gurvoke::programs::{Program, TemporaryFile};
-use gurvoke::rehearsal::transcript;
+use gurvoke::rehearsal::Rehearsal;
 
 pub const REHEARSE: Program = Program::named("rehearse");
 
-/// What the program is given.
-#[derive(Clone)]
-pub struct Rehearsal {
-    pub file: Vec<u8>,
-    pub calls: Vec<u8>,
-    /// Whether the marked parts stand under each answer.
-    pub with_parts: bool,
+/// The program's arguments for this rehearsal, with its file at this path.
+pub fn arguments<'a>(rehearsal: &Rehearsal, path: &'a Path) -> Vec<&'a OsStr> {
+    let mut arguments = vec![path.as_os_str()];
+    if rehearsal.with_parts {
+        arguments.push(OsStr::new("parts"));
+    }
+    arguments
 }
 
-impl Rehearsal {
-    /// What the model says that the program prints.
-    pub fn model(&self) -> String {
-        transcript(&self.file, &self.calls, self.with_parts)
-    }
+/// Expects this text from the model.
+pub fn assert_model(rehearsal: &Rehearsal, text: &str) {
+    assert_same("model", &rehearsal.transcript(), text, rehearsal);
+}
 
-    /// What the program prints.
-    fn program(&self) -> String {
-        let file = TemporaryFile::holding(&self.file);
-        REHEARSE.run(&self.arguments(file.path()), &self.calls)
-    }
+/// Expects this text from the program.
+pub fn assert_program(rehearsal: &Rehearsal, text: &str) {
+    let file = TemporaryFile::holding(&rehearsal.file);
+    let printed = REHEARSE.run(&arguments(rehearsal, file.path()), &rehearsal.calls);
+    assert_same("program", &printed, text, rehearsal);
+}
 
-    /// The program's arguments, for the file at this path.
-    pub fn arguments<'a>(&self, path: &'a Path) -> Vec<&'a OsStr> {
-        let mut arguments = vec![path.as_os_str()];
-        if self.with_parts {
-            arguments.push(OsStr::new("parts"));
-        }
-        arguments
-    }
+/// Expects this text from the model and from the program.
+pub fn assert_both(rehearsal: &Rehearsal, text: &str) {
+    assert_model(rehearsal, text);
+    assert_program(rehearsal, text);
+}
 
-    /// Expects this text from the model.
-    pub fn assert_model(&self, text: &str) {
-        assert_same("model", &self.model(), text, self);
-    }
-
-    /// Expects this text from the program.
-    pub fn assert_program(&self, text: &str) {
-        assert_same("program", &self.program(), text, self);
-    }
-
-    /// Expects the same text from the program as from the model, and gives it.
-    pub fn assert_as_model(&self) -> String {
-        let text = self.model();
-        self.assert_program(&text);
-        text
-    }
+/// Expects the same text from the program as from the model, and gives it.
+pub fn assert_as_model(rehearsal: &Rehearsal) -> String {
+    let text = rehearsal.transcript();
+    assert_program(rehearsal, &text);
+    text
 }
 
 /// Fails unless the two texts are alike, and shows the first lines in which they are not.
@@ -88,7 +74,7 @@ pub struct Tally {
 impl Tally {
     /// Compares the program with the model, and notes the lines.
     pub fn check(&mut self, rehearsal: &Rehearsal) {
-        let text = rehearsal.assert_as_model();
+        let text = assert_as_model(rehearsal);
         self.rehearsals += 1;
         for line in text.lines() {
             *self.lines.entry(kind(line)).or_default() += 1;

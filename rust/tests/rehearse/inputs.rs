@@ -3,20 +3,22 @@
 use std::thread::sleep;
 use std::time::Duration;
 
-use gurvoke::builder::{file, goal};
-use gurvoke::cases::Rng;
 use gurvoke::programs::{feed, TemporaryFile};
-use gurvoke::rehearsal::MAX_LINE;
+use gurvoke::rehearsal::{Rehearsal, MAX_LINE};
+use gurvoke::rng::Rng;
 use gurvoke::runs;
 use gurvoke::scripts::script;
+use gurvoke::stations::STATION_1;
 use gurvoke::unfolding::Program;
 
-use crate::harness::{assert_same, Rehearsal, REHEARSE};
+use crate::harness::{
+    arguments, assert_as_model, assert_both, assert_model, assert_same, REHEARSE,
+};
 
 /// Station 1 with these calls.
 fn station_1(calls: Vec<u8>) -> Rehearsal {
     Rehearsal {
-        file: file(1, 1, &goal(0, 1)),
+        file: STATION_1.to_vec(),
         calls,
         with_parts: false,
     }
@@ -38,24 +40,16 @@ fn long_input() {
     let mut text = String::from("begun\n");
     text += &"goals 01 named none\nrunning\n".repeat(99_999);
     text += "goals 01 named none\nfinished\n";
-    let summary = "\
-phase 2
-last time 100000
-estimate 01
-clock 0 -
-finishing cycle 100000
-";
+    let summary = include_str!("../data/rehearsals/long_input_summary.out");
     let rehearsal = station_1(long_list());
     let whole = text.clone() + summary;
-    rehearsal.assert_model(&whole);
-    rehearsal.assert_program(&whole);
+    assert_both(&rehearsal, &whole);
 
     let mut calls = long_list();
     calls.extend(b"settled 01\noffer 100000\n");
     let rehearsal = station_1(calls);
     let cut = text + "line 200002: not a call\n";
-    rehearsal.assert_model(&cut);
-    rehearsal.assert_program(&cut);
+    assert_both(&rehearsal, &cut);
 }
 
 /// Lines that are passed over count too.
@@ -65,8 +59,7 @@ fn many_lines_with_no_call() {
     calls.extend(b"begin 00\nx\n");
     let rehearsal = station_1(calls);
     let text = "begun\nline 300002: not a call\n";
-    rehearsal.assert_model(text);
-    rehearsal.assert_program(text);
+    assert_both(&rehearsal, text);
 }
 
 /// Lists that come so many bytes at a time.
@@ -93,7 +86,7 @@ fn pieces() {
 fn pieces_of_a_line_that_is_no_call() {
     let rehearsal = station_1(b"begin 00\n\noffer 1\nsettle 0\nsettle 00\n".to_vec());
     let text = "begun\ngoals 01 named none\nline 4: not a call\n";
-    rehearsal.assert_model(text);
+    assert_model(&rehearsal, text);
     assert_in_pieces(&rehearsal, 1, Duration::from_millis(1));
 }
 
@@ -101,13 +94,18 @@ fn pieces_of_a_line_that_is_no_call() {
 /// program can take what has come.
 fn assert_in_pieces(rehearsal: &Rehearsal, piece: usize, pause: Duration) {
     let file = TemporaryFile::holding(&rehearsal.file);
-    let text = REHEARSE.run_fed(&rehearsal.arguments(file.path()), |child| {
+    let text = REHEARSE.run_fed(&arguments(rehearsal, file.path()), |child| {
         for bytes in rehearsal.calls.chunks(piece) {
             feed(child, bytes);
             sleep(pause);
         }
     });
-    assert_same("program in pieces", &text, &rehearsal.model(), rehearsal);
+    assert_same(
+        "program in pieces",
+        &text,
+        &rehearsal.transcript(),
+        rehearsal,
+    );
 }
 
 /// A line of so many bytes that has this call and nothing else.
@@ -163,7 +161,7 @@ fn longest_lines() {
     for len in [MAX_LINE - 1, MAX_LINE, MAX_LINE + 1, MAX_LINE + 2] {
         for line in long_lines(len) {
             for calls in around(&line) {
-                let text = station_1(calls).assert_as_model();
+                let text = assert_as_model(&station_1(calls));
                 let cut = text.ends_with("not a call\n");
                 assert!(cut || len <= MAX_LINE, "a line of {len} bytes");
                 ended += usize::from(cut);
@@ -181,12 +179,10 @@ fn much_longer_lines() {
         for line in long_lines(len) {
             let front = station_1([&line[..], b"\nbegin 00\n"].concat());
             let text = "line 1: not a call\n";
-            front.assert_model(text);
-            front.assert_program(text);
+            assert_both(&front, text);
             let last = station_1([b"\nbegin 00\n", &line[..]].concat());
             let text = "begun\nline 3: not a call\n";
-            last.assert_model(text);
-            last.assert_program(text);
+            assert_both(&last, text);
         }
     }
 }

@@ -1,8 +1,11 @@
 //! Lines of every form, one by one, with the texts that they give.
 
-use gurvoke::builder::{file, goal};
+use gurvoke::record::{OFFERED, WAITING};
+use gurvoke::refusals::{BUFFER_TOO_SHORT, ESTIMATE_NOT_ALLOWED, WRONG_PHASE};
+use gurvoke::rehearsal::Rehearsal;
+use gurvoke::stations::STATION_1;
 
-use crate::harness::Rehearsal;
+use crate::harness::{assert_model, assert_program};
 
 /// What a line comes to.
 #[derive(Clone, Copy)]
@@ -134,8 +137,8 @@ const AFTER_BEGIN: &[(&[u8], Outcome)] = &[
     (b"offer 7 257", Offered(7)),
     (b"offer 7 65536", Offered(7)),
     (b"offer 7 4294967295", Offered(7)),
-    (b"offer 7 0", Refused(8)),
-    (b"offer 7 0000000000000000000000", Refused(8)),
+    (b"offer 7 0", Refused(BUFFER_TOO_SHORT)),
+    (b"offer 7 0000000000000000000000", Refused(BUFFER_TOO_SHORT)),
     (b" offer 7", Offered(7)),
     (b"   offer     7     1   ", Offered(7)),
     (b"offer 00000000000000000007", Offered(7)),
@@ -153,8 +156,8 @@ const AFTER_BEGIN: &[(&[u8], Outcome)] = &[
         Offered(4_294_967_295),
     ),
     // Beginnings.
-    (b"begin", Refused(13)),
-    (b"begin   ", Refused(13)),
+    (b"begin", Refused(ESTIMATE_NOT_ALLOWED)),
+    (b"begin   ", Refused(ESTIMATE_NOT_ALLOWED)),
     (b"begin 0", NoCall),
     (b"begin 0 1", NoCall),
     (b"begin 0 0 0 1", NoCall),
@@ -189,17 +192,17 @@ const AFTER_BEGIN: &[(&[u8], Outcome)] = &[
     (b"begin fA", Begun("FA")),
     (b"begin FA", Begun("FA")),
     (b"   begin    fa    ", Begun("FA")),
-    (b"begin fb", Refused(13)),
-    (b"begin FF", Refused(13)),
-    (b"begin 00 00", Refused(13)),
-    (b"begin 0000", Refused(13)),
-    (b"begin 00 0102 03", Refused(13)),
+    (b"begin fb", Refused(ESTIMATE_NOT_ALLOWED)),
+    (b"begin FF", Refused(ESTIMATE_NOT_ALLOWED)),
+    (b"begin 00 00", Refused(ESTIMATE_NOT_ALLOWED)),
+    (b"begin 0000", Refused(ESTIMATE_NOT_ALLOWED)),
+    (b"begin 00 0102 03", Refused(ESTIMATE_NOT_ALLOWED)),
     // A settling has not its turn, whatever its estimate, if it is a call at all.
-    (b"settle", Refused(11)),
-    (b"settle 00", Refused(11)),
-    (b"settle FF", Refused(11)),
-    (b"settle 00 00", Refused(11)),
-    (b"  settle  0000  ", Refused(11)),
+    (b"settle", Refused(WRONG_PHASE)),
+    (b"settle 00", Refused(WRONG_PHASE)),
+    (b"settle FF", Refused(WRONG_PHASE)),
+    (b"settle 00 00", Refused(WRONG_PHASE)),
+    (b"  settle  0000  ", Refused(WRONG_PHASE)),
     (b"settle 0", NoCall),
     (b"settle 0 0", NoCall),
     (b"settle 00 0", NoCall),
@@ -212,10 +215,10 @@ const AFTER_BEGIN: &[(&[u8], Outcome)] = &[
 fn text_of(outcome: Outcome) -> String {
     match outcome {
         NoCall => "line 2: not a call\n".to_string(),
-        PassedOver => summary(0, 0, "00"),
-        Refused(number) => format!("refused {number}\n") + &summary(0, 0, "00"),
-        Begun(estimate) => "begun\n".to_string() + &summary(0, 0, estimate),
-        Offered(time) => "goals 01 named none\n".to_string() + &summary(1, time, "00"),
+        PassedOver => summary(WAITING, 0, "00"),
+        Refused(number) => format!("refused {number}\n") + &summary(WAITING, 0, "00"),
+        Begun(estimate) => "begun\n".to_string() + &summary(WAITING, 0, estimate),
+        Offered(time) => "goals 01 named none\n".to_string() + &summary(OFFERED, time, "00"),
     }
 }
 
@@ -225,7 +228,7 @@ fn summary(phase: u8, time: u32, estimate: &str) -> String {
 
 fn rehearsal(calls: &[u8]) -> Rehearsal {
     Rehearsal {
-        file: file(1, 1, &goal(0, 1)),
+        file: STATION_1.to_vec(),
         calls: calls.to_vec(),
         with_parts: false,
     }
@@ -257,39 +260,13 @@ const LISTS: &[(&[u8], &str)] = &[
 ];
 
 /// Nothing has begun.
-const FRESH: &str = "\
-phase 0
-last time 0
-estimate 00
-clock 0 -
-finishing cycle -
-";
+const FRESH: &str = include_str!("../data/rehearsals/fresh.out");
 
 /// Two calls before a beginning.
-const BEFORE_A_BEGINNING: &str = "\
-refused 10
-refused 10
-phase 0
-last time 0
-estimate 00
-clock 0 -
-finishing cycle -
-";
+const BEFORE_A_BEGINNING: &str = include_str!("../data/rehearsals/before_a_beginning.out");
 
 /// Three estimates that are not allowed, then one that finishes the run.
-const SETTLED: &str = "\
-begun
-goals 01 named none
-refused 13
-refused 13
-refused 13
-finished
-phase 2
-last time 7
-estimate 01
-clock 0 -
-finishing cycle 1
-";
+const SETTLED: &str = include_str!("../data/rehearsals/settled.out");
 
 /// Every line after a beginning, with a line feed and without one, and every list.
 fn with_texts() -> Vec<(Rehearsal, String)> {
@@ -310,13 +287,13 @@ fn with_texts() -> Vec<(Rehearsal, String)> {
 #[test]
 fn model_of_the_lines() {
     for (rehearsal, text) in with_texts() {
-        rehearsal.assert_model(&text);
+        assert_model(&rehearsal, &text);
     }
 }
 
 #[test]
 fn lines() {
     for (rehearsal, text) in with_texts() {
-        rehearsal.assert_program(&text);
+        assert_program(&rehearsal, &text);
     }
 }

@@ -1,13 +1,15 @@
 //! Random programs with random lists of calls, whole and damaged.
 
-use gurvoke::builder::{at_least, file, seq, start, wait};
-use gurvoke::cases::{Rng, Shape};
-use gurvoke::model::{MAX_DEPTH, MAX_PARTS};
+use gurvoke::cases::Shape;
+use gurvoke::rehearsal::Rehearsal;
+use gurvoke::rng::Rng;
 use gurvoke::runs;
 use gurvoke::scripts::{damaged, script};
+use gurvoke::sizes::{MAX_DEPTH, MAX_PARTS};
+use gurvoke::stations::STATION_8;
 use gurvoke::unfolding::Program;
 
-use crate::harness::{Rehearsal, Tally};
+use crate::harness::Tally;
 
 /// A rehearsal of this program with a random list of so many calls.
 fn rehearsal(rng: &mut Rng, file: Vec<u8>, calls: usize) -> Rehearsal {
@@ -110,7 +112,7 @@ fn damaged_scripts() {
 #[test]
 fn every_place_damaged() {
     let whole = Rehearsal {
-        file: file(1, 1, &seq(vec![start(0), wait(at_least(0, 10))])),
+        file: STATION_8.to_vec(),
         calls: b"begin 0f\noffer 9 1\nsettle 00\n#\noffer 19\nsettle FA".to_vec(),
         with_parts: true,
     };

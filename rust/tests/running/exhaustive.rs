@@ -3,12 +3,12 @@
 use gurvoke::builder::{
     at_least, below, choice, differs, equals, file, goal, maintain, par, repeat, seq, start, wait,
 };
-use gurvoke::cases::Rng;
 use gurvoke::executive::{Executive, ALL};
-use gurvoke::model::{Condition, Part};
-use gurvoke::record::RECORD_LEN;
+use gurvoke::parts::{Condition, Part};
+use gurvoke::record::{Phase, RECORD_LEN};
+use gurvoke::rng::Rng;
 use gurvoke::runs::Call;
-use gurvoke::unfolding::{Phase, Program, Run};
+use gurvoke::unfolding::{Program, Run};
 
 use crate::harness::{Board, Tally};
 

@@ -1,14 +1,15 @@
 //! Calls of an executive that are compared with the unfolding in every byte.
 
-use gurvoke::cases::{hex, Rng};
+use gurvoke::answers::{self, ANSWERED, DONE, NO_VARIABLE};
 use gurvoke::executive::Executive;
+use gurvoke::hex::hex;
 use gurvoke::lent::Lent;
 use gurvoke::model;
-use gurvoke::record::{
-    ACCEPTED, FINISHED, JUST_FINISHED, NONE_CONTESTED, PHASE, RECORD_LEN, RUNNING,
-};
+use gurvoke::record::{Phase, FINISHED, PHASE, RECORD_LEN};
+use gurvoke::refusals::{BUFFER_TOO_SHORT, NOTHING_AT_WORK};
+use gurvoke::rng::Rng;
 use gurvoke::runs::Call;
-use gurvoke::unfolding::{Offer, Phase, Program, Progress, Run};
+use gurvoke::unfolding::{Offer, Program, Progress, Run};
 
 /// The table of an accepted file.
 pub fn table_of(file: &[u8]) -> Vec<u8> {
@@ -72,7 +73,7 @@ impl Board {
         first: &[u8],
     ) -> Result<Run<'a>, u32> {
         let wanted = match Run::begin(program, first) {
-            Ok(_) if self.record.content().len() < RECORD_LEN => Err(model::OUTPUT_TOO_SHORT),
+            Ok(_) if self.record.content().len() < RECORD_LEN => Err(BUFFER_TOO_SHORT),
             begun => begun,
         };
         let estimate = Lent::new(rng, first);
@@ -87,7 +88,7 @@ impl Board {
         if let Ok(run) = &wanted {
             self.record.expect(&run.record());
         }
-        let number = wanted.as_ref().err().copied().unwrap_or(0);
+        let number = wanted.as_ref().err().copied().unwrap_or(DONE);
         assert_eq!(answer, number, "begin with {first:?}: {}", self.case());
         self.assert_lent(&[&estimate]);
         wanted
@@ -139,8 +140,8 @@ impl Board {
         self.record.expect(&run.record());
         let number = match wanted {
             Err(number) => number,
-            Ok(Progress::Running) => RUNNING,
-            Ok(Progress::Finished) => JUST_FINISHED,
+            Ok(Progress::Running) => answers::RUNNING,
+            Ok(Progress::Finished) => answers::FINISHED,
         };
         assert_eq!(answer, number, "{}", self.case());
         self.assert_lent(&[&estimate]);
@@ -151,7 +152,7 @@ impl Board {
 
     /// Counts the executive's own cycles, by its own answers and record.
     fn count_settling(&mut self, answer: u32) {
-        if answer < ACCEPTED {
+        if answer < ANSWERED {
             return;
         }
         self.settlings += 1;
@@ -163,10 +164,10 @@ impl Board {
     /// The executive names a variable that is contested, or none exactly where none is.
     fn assert_named(&self, answer: u32, offer: &Offer) {
         let named = answer
-            .checked_sub(ACCEPTED)
+            .checked_sub(ANSWERED)
             .and_then(|named| u8::try_from(named).ok());
         let right = named.is_some_and(|named| match offer.contested.is_empty() {
-            true => named == NONE_CONTESTED,
+            true => named == NO_VARIABLE,
             false => offer.contested.contains(&named),
         });
         assert!(
@@ -237,7 +238,7 @@ impl Board {
 /// How often each answer was given.
 #[derive(Default)]
 pub struct Tally {
-    refusals: [u64; 16],
+    refusals: [u64; NOTHING_AT_WORK as usize + 1],
     pub offers: u64,
     pub contested: u64,
     pub running: u64,
@@ -264,7 +265,7 @@ impl Tally {
     }
 
     /// Fails unless each refusal named came at least so often.
-    pub fn require(&self, name: &str, minimums: &[(usize, u64)]) {
+    pub fn require(&self, name: &str, minimums: &[(u32, u64)]) {
         println!(
             "{name}: {} calls; {} offers, {} of them contested; {} settlings running, {} finished; \
              refusals {:?}",
@@ -276,7 +277,7 @@ impl Tally {
             self.refusals
         );
         for &(refusal, minimum) in minimums {
-            let count = self.refusals[refusal];
+            let count = self.refusals[refusal as usize];
             assert!(
                 count >= minimum,
                 "{name}: refusal {refusal} came {count} times, and should at least {minimum} times"
@@ -291,14 +292,14 @@ pub fn is_over(run: &Run) -> bool {
 }
 
 /// A run of one program that a test steps by hand, compared with the unfolding all the while.
-pub struct Rehearsal<'a> {
+pub struct SteppedRun<'a> {
     rng: Rng,
     pub board: Board,
     pub run: Run<'a>,
 }
 
-/// Rehearses a program on every executive, from this first estimate.
-pub fn rehearse(file: &[u8], first: &[u8], steps: impl Fn(&mut Rehearsal)) {
+/// Runs a program on every executive, from this first estimate and by these steps.
+pub fn step_through(file: &[u8], first: &[u8], steps: impl Fn(&mut SteppedRun)) {
     let program = Program::read(file).expect("an accepted file");
     for &executive in gurvoke::executive::ALL {
         let mut rng = Rng::new(1);
@@ -306,11 +307,11 @@ pub fn rehearse(file: &[u8], first: &[u8], steps: impl Fn(&mut Rehearsal)) {
         let run = board
             .begin(&mut rng, &program, first)
             .expect("an allowed estimate");
-        steps(&mut Rehearsal { rng, board, run });
+        steps(&mut SteppedRun { rng, board, run });
     }
 }
 
-impl Rehearsal<'_> {
+impl SteppedRun<'_> {
     /// Offers at this time; the goal bytes must be these.
     pub fn offer(&mut self, time: u32, goals: &[u8]) {
         let room = goals.len();
@@ -346,6 +347,13 @@ impl Rehearsal<'_> {
 
     fn call(&mut self, call: Call) -> Given {
         self.board.call(&mut self.rng, &mut self.run, &call)
+    }
+
+    /// Makes a call that must be accepted.
+    pub fn accepted(&mut self, call: Call) {
+        let given = self.call(call);
+        let refused = matches!(given, Given::Refused(_));
+        assert!(!refused, "{given:?}: {}", self.board.case());
     }
 
     /// The record's bytes, without what stands behind them.

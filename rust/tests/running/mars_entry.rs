@@ -32,11 +32,13 @@
 //! - Commands and the plant model stay outside: the estimates that follow are those that the paper
 //!   says mode estimation gives.
 
+use gurvoke::answers::NO_GOAL;
 use gurvoke::builder::{
     at_least, differs, equals, file, goal, maintain, par, repeat, seq, start, wait,
 };
+use gurvoke::record::{start_place, time_at, MARKS, STARTED};
 
-use crate::harness::{rehearse, Rehearsal};
+use crate::harness::{step_through, SteppedRun};
 
 // The variables, and their values.
 const ENGINE: u8 = 0;
@@ -64,12 +66,7 @@ const ORIENTED: [u8; 5] = [STANDBY, INERTIAL, ENTRY_ORIENT, 0, 0];
 const RELEASED: [u8; 5] = [STANDBY, INERTIAL, ENTRY_ORIENT, SEPARATED, 0];
 const ENTERING: [u8; 5] = [STANDBY, INERTIAL, ENTRY_ORIENT, SEPARATED, INITIATED];
 
-const NO_GOALS: [u8; 5] = [255; 5];
-
-/// Where the record's clocks and marks stand.
-const STARTED: usize = 37;
-const STARTS: usize = 53;
-const MARKS: usize = 117;
+const NO_GOALS: [u8; 5] = [NO_GOAL; 5];
 
 fn entry_sequence() -> Vec<u8> {
     let hold = repeat(goal(ATT, ENTRY_ORIENT.into())); // 9, 10
@@ -111,34 +108,33 @@ fn parts_of(locations: &[usize]) -> Vec<usize> {
 }
 
 /// The parts that the record marks.
-fn marked_parts(run: &Rehearsal) -> Vec<usize> {
+fn marked_parts(run: &SteppedRun) -> Vec<usize> {
     let marks = &run.record()[MARKS..];
     (0..marks.len()).filter(|&part| marks[part] == 1).collect()
 }
 
 /// The paper's marked locations are the record's marked parts.
-fn assert_marked(run: &Rehearsal, locations: &[usize]) {
+fn assert_marked(run: &SteppedRun, locations: &[usize]) {
     assert_eq!(marked_parts(run), parts_of(locations), "{locations:?}");
 }
 
 /// The clock was initialized at this time.
-fn assert_started(run: &Rehearsal, clock: u8, time: u32) {
+fn assert_started(run: &SteppedRun, clock: u8, time: u32) {
     let clock = usize::from(clock);
-    let place = STARTS + 4 * clock;
     assert_eq!(run.record()[STARTED + clock], 1);
-    assert_eq!(run.record()[place..place + 4], time.to_le_bytes());
+    assert_eq!(time_at(run.record(), start_place(clock)), time);
 }
 
 /// One cycle of section 6: its time, the goals asserted, the estimate read, the locations marked
 /// after.
-fn cycle(run: &mut Rehearsal, time: u32, goals: &[(u8, u8)], estimate: [u8; 5], marked: &[usize]) {
+fn cycle(run: &mut SteppedRun, time: u32, goals: &[(u8, u8)], estimate: [u8; 5], marked: &[usize]) {
     run.offer(time, &asserting(goals));
     run.runs_on(&estimate);
     assert_marked(run, marked);
 }
 
 /// From the initial state through cycle N3, in which the entry orientation is reached.
-fn up_to_entry_orientation(run: &mut Rehearsal) {
+fn up_to_entry_orientation(run: &mut SteppedRun) {
     assert_marked(run, &[1, 2]);
     // Cycle 1, 0.0 sec. "The only goal constraint asserted is engine=standby."
     cycle(run, 0, &[(ENGINE, STANDBY)], IN_STANDBY, &[1, 3]);
@@ -174,7 +170,7 @@ fn up_to_entry_orientation(run: &mut Rehearsal) {
 }
 
 /// The remaining cycles: the orientation is held until entry is initiated, and then all ends.
-fn down_to_entry(run: &mut Rehearsal) {
+fn down_to_entry(run: &mut SteppedRun) {
     let hold = (ATT, ENTRY_ORIENT);
     // "Execution continues with locations 1, 8, 9, and 10 remaining marked (and att=entry-orient
     // continuing to be asserted as a goal) until ME indicates that entry=initiated."
@@ -194,7 +190,7 @@ fn down_to_entry(run: &mut Rehearsal) {
 /// "A fault-free execution of the Mars entry sequence."
 #[test]
 fn fault_free_execution() {
-    rehearse(&entry_sequence(), &INITIAL, |run| {
+    step_through(&entry_sequence(), &INITIAL, |run| {
         up_to_entry_orientation(run);
         // Cycle N3 + 1, 16453.3 sec. "The configuration goal passed to MR now consists of
         // att=entry-orient and lander=separated … leading to marked locations 1, 8, 9, and 10."
@@ -210,7 +206,7 @@ fn fault_free_execution() {
 /// the deductive controller until it has been achieved."
 #[test]
 fn the_primary_latches_fail() {
-    rehearse(&entry_sequence(), &INITIAL, |run| {
+    step_through(&entry_sequence(), &INITIAL, |run| {
         up_to_entry_orientation(run);
         let both = [(ATT, ENTRY_ORIENT), (LANDER, SEPARATED)];
         let mut failed = ORIENTED;

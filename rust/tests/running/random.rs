@@ -1,16 +1,32 @@
 //! Random runs: every executive against the unfolding, call by call.
 
-use gurvoke::cases::{hex, Rng, Shape};
+use gurvoke::answers::DONE;
+use gurvoke::cases::Shape;
 use gurvoke::executive::{Executive, ALL};
-use gurvoke::model::{self, MAX_DEPTH, MAX_PARTS};
+use gurvoke::hex::hex;
+use gurvoke::model;
 use gurvoke::record::RECORD_LEN;
+use gurvoke::refusals::{
+    BUFFER_TOO_SHORT, ESTIMATE_NOT_ALLOWED, RUN_FINISHED, TIME_BEFORE_LAST, WRONG_PHASE,
+};
+use gurvoke::rng::Rng;
 use gurvoke::runs::{self, Caller};
+use gurvoke::sizes::{MAX_DEPTH, MAX_PARTS};
 use gurvoke::unfolding::{Program, Run};
 
 use crate::harness::{is_over, Board, Given, Tally};
 
 /// The first executive gets every run, each other one in this many.
 const SHARE: usize = 10;
+
+/// The refusals that a run can get once it has begun.
+const REFUSALS: [u32; 5] = [
+    BUFFER_TOO_SHORT,
+    WRONG_PHASE,
+    TIME_BEFORE_LAST,
+    ESTIMATE_NOT_ALLOWED,
+    RUN_FINISHED,
+];
 
 /// What the runs of one executive came to.
 #[derive(Default)]
@@ -129,7 +145,7 @@ fn check_run(rng: &mut Rng, seen: &mut Seen, executive: &'static Executive, file
 #[test]
 fn any_programs() {
     let seen = check_runs(300, 50_000, runs::program);
-    let often = [8, 11, 12, 13, 14].map(|refusal| (refusal, 5000));
+    let often = REFUSALS.map(|refusal| (refusal, 5000));
     seen.tally.require("any programs", &often);
     assert!(seen.finished >= 10_000 && seen.tally.contested >= 10_000);
     assert!(seen.violated >= 10_000 && seen.end_of_time >= 1000);
@@ -153,7 +169,7 @@ fn small_programs() {
         let shape = rng.pick(&[Shape::Deep, Shape::Mixed]);
         runs::program_of(rng, parts, depth, shape)
     });
-    let often = [8, 11, 12, 13, 14].map(|refusal| (refusal, 4000));
+    let often = REFUSALS.map(|refusal| (refusal, 4000));
     seen.tally.require("small programs", &often);
     assert!(seen.finished >= 10_000 && seen.violated >= 5000);
 }
@@ -166,7 +182,12 @@ fn largest_programs() {
         let parts = rng.between(MAX_PARTS - 1, MAX_PARTS);
         runs::program_of(rng, parts, MAX_DEPTH, shape)
     });
-    let often = [8, 11, 12, 13].map(|refusal| (refusal, 200));
+    // Few of these runs finish.
+    let often = REFUSALS
+        .into_iter()
+        .filter(|&refusal| refusal != RUN_FINISHED)
+        .map(|refusal| (refusal, 200));
+    let often: Vec<(u32, u64)> = often.collect();
     seen.tally.require("largest programs", &often);
     assert!(seen.violated >= 500 && seen.tally.contested >= 1000);
 }
@@ -177,7 +198,7 @@ fn largest_programs() {
 fn beginnings() {
     for &executive in ALL {
         let mut rng = Rng::new(303);
-        let mut answers = [0; 14];
+        let mut answers = [0; ESTIMATE_NOT_ALLOWED as usize + 1];
         for _ in 0..20_000 {
             let file = runs::program(&mut rng);
             let program = Program::read(&file).expect("a valid program");
@@ -190,9 +211,10 @@ fn beginnings() {
                 false => estimate,
             };
             let begun = board.begin(&mut rng, &program, &estimate);
-            answers[begun.err().unwrap_or(0) as usize] += 1;
+            answers[begun.err().unwrap_or(DONE) as usize] += 1;
         }
-        let [accepted, short, estimates] = [0, 8, 13].map(|answer: usize| answers[answer]);
+        let [accepted, short, estimates] =
+            [DONE, BUFFER_TOO_SHORT, ESTIMATE_NOT_ALLOWED].map(|answer| answers[answer as usize]);
         assert_eq!(accepted + short + estimates, 20_000);
         assert!(accepted >= 2000 && short >= 2000 && estimates >= 2000);
     }

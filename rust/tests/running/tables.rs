@@ -1,14 +1,20 @@
 //! Calls with bytes that are not the program's table.
 
+use gurvoke::answers::ANSWERED;
 use gurvoke::builder::{
     at_least, below, choice, differs, equals, file, goal, maintain, par, repeat, seq, start, wait,
 };
-use gurvoke::cases::{hex, Rng, Shape};
+use gurvoke::cases::Shape;
+use gurvoke::examples::NO_TABLE;
 use gurvoke::executive::{Executive, ALL, REFERENCE};
+use gurvoke::hex::hex;
 use gurvoke::lent::Lent;
-use gurvoke::model::{self, MAX_DEPTH, MAX_PARTS};
+use gurvoke::model;
 use gurvoke::record::RECORD_LEN;
+use gurvoke::refusals::NOT_A_TABLE;
+use gurvoke::rng::Rng;
 use gurvoke::runs::{self, Call};
+use gurvoke::sizes::{Sizes, MAX_DEPTH, MAX_PARTS};
 use gurvoke::stations::STATION_10;
 use gurvoke::unfolding::{Program, Run};
 
@@ -88,12 +94,17 @@ fn assert_no_table(executive: &'static Executive, table: &[u8], program: &Progra
     let case = || format!("{}: {}", executive.name, hex(table));
     assert_eq!(
         (begun.0, &begun.1[..]),
-        (9, &[0x5A; RECORD_LEN][..]),
+        (NOT_A_TABLE, &[0x5A; RECORD_LEN][..]),
         "{}",
         case()
     );
-    assert_eq!((offer.0, offer.1), (9, fresh), "{}", case());
-    assert_eq!((settling.0, settling.1), (9, offered), "{}", case());
+    assert_eq!((offer.0, offer.1), (NOT_A_TABLE, fresh), "{}", case());
+    assert_eq!(
+        (settling.0, settling.1),
+        (NOT_A_TABLE, offered),
+        "{}",
+        case()
+    );
     assert_eq!(offer.2, untouched_goals(program), "{}", case());
 }
 
@@ -128,7 +139,7 @@ fn check_each_byte(file: &[u8], values: &[u8]) -> usize {
                     continue;
                 }
                 let outcomes = three_calls(executive, &table, &program);
-                assert!(outcomes.iter().all(|outcome| outcome.0 != 9));
+                assert!(outcomes.iter().all(|outcome| outcome.0 != NOT_A_TABLE));
                 check_begin(executive, &table, &program);
                 assert_alike(executive, &table, &outcomes, &program);
             }
@@ -143,7 +154,7 @@ fn assert_alike(executive: &Executive, table: &[u8], outcomes: &[Outcome; 3], pr
     let plain = three_calls(&REFERENCE, table, program);
     for (outcome, plain) in outcomes.iter().zip(&plain) {
         let case = || format!("{}: {}", executive.name, hex(table));
-        assert_eq!(outcome.0.min(256), plain.0.min(256), "{}", case());
+        assert_eq!(outcome.0.min(ANSWERED), plain.0.min(ANSWERED), "{}", case());
         assert_eq!((&outcome.1, &outcome.2), (&plain.1, &plain.2), "{}", case());
     }
 }
@@ -151,7 +162,7 @@ fn assert_alike(executive: &Executive, table: &[u8], outcomes: &[Outcome; 3], pr
 /// A beginning with the table of another file is a beginning of that file's program.
 fn check_begin(executive: &'static Executive, table: &[u8], program: &Program) {
     let mut rng = Rng::new(502);
-    let mut file = vec![0; model::Sizes::read(table).expect("sizes").file_len()];
+    let mut file = vec![0; Sizes::read(table).expect("sizes").file_len()];
     model::decompile(table, &mut file).expect("the table of a file");
     let other = Program::read(&file).expect("a valid program");
     let mut board = Board::new(&mut rng, executive, &file, RECORD_LEN);
@@ -209,15 +220,14 @@ fn tables_cut_short_or_longer() {
 #[test]
 fn no_table_comes_first() {
     let short = [7; RECORD_LEN - 1];
-    let table = [0x01, 0x01, 0x00];
     for &executive in ALL {
-        let begun = begin(executive, &table, &[251, 0, 0], &short);
-        assert_eq!((begun.0, &begun.1[..]), (9, &short[..]));
+        let begun = begin(executive, &NO_TABLE, &[251, 0, 0], &short);
+        assert_eq!((begun.0, &begun.1[..]), (NOT_A_TABLE, &short[..]));
         let offer = Call::Offer { time: 0, room: 0 };
         let estimate = vec![251];
         for wrong in [offer, Call::Settle { estimate }] {
-            let outcome = call(executive, &table, &short, wrong);
-            assert_eq!((outcome.0, &outcome.1[..]), (9, &short[..]));
+            let outcome = call(executive, &NO_TABLE, &short, wrong);
+            assert_eq!((outcome.0, &outcome.1[..]), (NOT_A_TABLE, &short[..]));
         }
     }
 }

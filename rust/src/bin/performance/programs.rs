@@ -3,7 +3,9 @@
 use gurvoke::builder::{
     at_least, below, choice, differs, file, goal, maintain, par, repeat, seq, start, wait,
 };
-use gurvoke::model::{Part, Program, Sizes, MAX_CLOCKS, MAX_DEPTH, MAX_VARIABLES};
+use gurvoke::model::Program;
+use gurvoke::parts::Part;
+use gurvoke::sizes::{Sizes, MAX_CLOCKS, MAX_DEPTH, MAX_VARIABLES};
 
 /// The numbers of parts.
 pub const SIZES: [usize; 4] = [25, 50, 100, 200];

@@ -2,9 +2,11 @@
 
 use std::hint::black_box;
 
+use gurvoke::answers::{ANSWERED, DONE, RUNNING};
 use gurvoke::executive::{Executive, REFERENCE};
-use gurvoke::model::{read, Program, Sizes, MAX_VALUE};
-use gurvoke::record::{ACCEPTED, ESTIMATE, MARKS, RECORD_LEN, RUNNING, STARTED};
+use gurvoke::model::{read, Program};
+use gurvoke::record::{ESTIMATE, MARKS, RECORD_LEN, STARTED};
+use gurvoke::sizes::{Sizes, MAX_VALUE};
 
 use crate::programs::UNMOVED;
 
@@ -46,8 +48,8 @@ pub static IDLE: Executive = Executive {
     name: "idle",
     compile: |_, _| Ok(()),
     decompile: |_, _| Ok(()),
-    begin: |_, _, _| 0,
-    offer: |_, _, _, _| ACCEPTED,
+    begin: |_, _, _| DONE,
+    offer: |_, _, _, _| ANSWERED,
     settle: |_, _, _| RUNNING,
 };
 
@@ -110,7 +112,7 @@ impl Trial {
         let mut record = vec![0; RECORD_LEN];
         assert_eq!(
             (REFERENCE.begin)(&self.table, &self.estimate, &mut record),
-            0
+            DONE
         );
         self.waiting.clone_from(&record);
         for time in 1..=CYCLES {
@@ -138,14 +140,14 @@ impl Trial {
             Operation::Compile => (executive.compile)(&self.file, &mut self.output).is_ok(),
             Operation::Decompile => (executive.decompile)(&self.table, &mut self.output).is_ok(),
             Operation::Begin => {
-                (executive.begin)(&self.table, &self.estimate, &mut self.record) == 0
+                (executive.begin)(&self.table, &self.estimate, &mut self.record) == DONE
             }
             Operation::Offer => {
                 let goals = &mut self.output;
-                (executive.offer)(&self.table, &mut self.record, self.time, goals) >= ACCEPTED
+                (executive.offer)(&self.table, &mut self.record, self.time, goals) >= ANSWERED
             }
             Operation::Settle => {
-                (executive.settle)(&self.table, &mut self.record, &self.estimate) >= ACCEPTED
+                (executive.settle)(&self.table, &mut self.record, &self.estimate) >= ANSWERED
             }
         };
         black_box(accepted)
@@ -160,7 +162,7 @@ fn marks(record: &[u8]) -> usize {
 fn offer(table: &[u8], record: &mut [u8], time: u32) -> Vec<u8> {
     let sizes = Sizes::read(table).expect("a table has its sizes");
     let mut goals = vec![0; sizes.variables];
-    assert!((REFERENCE.offer)(table, record, time, &mut goals) >= ACCEPTED);
+    assert!((REFERENCE.offer)(table, record, time, &mut goals) >= ANSWERED);
     goals
 }
 
