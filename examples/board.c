@@ -22,15 +22,18 @@ enum { LAMP, CORER, FRAME, RELEASE, VARIABLES };
  * the core is taken. The frame is level at 0. The release lets go of the ballast at 1. */
 static const uint8_t program[] = {
     10, VARIABLES, 1, /* ten parts, four variables, one clock */
-    4, 5, 1, 1, 2, 6, 4, 3, 1, 1, /* the parts' kinds, then their operands: */
+    /* the parts' kinds, */
+    GURVOKE_SEQ, GURVOKE_PAR, GURVOKE_GOAL, GURVOKE_GOAL, GURVOKE_START, GURVOKE_MAINTAIN,
+    GURVOKE_SEQ, GURVOKE_WAIT, GURVOKE_GOAL, GURVOKE_GOAL,
+    /* then their operands: */
     4, 0, 0, 0, /* 0  SEQ of four */
     2, 0, 0, 0, /* 1    PAR of two */
     0, LAMP, 2, 0, /* 2      GOAL lamp = 2, for the camera */
     0, LAMP, 1, 0, /* 3      GOAL lamp = 1, for the light meter */
     0, 0, 0, 0, /* 4    START clock 0 */
-    1, FRAME, 0, 0, /* 5    MAINTAIN frame = 0 */
+    GURVOKE_EQUALS, FRAME, 0, 0, /* 5    MAINTAIN frame = 0 */
     2, 0, 0, 0, /* 6      SEQ of two */
-    3, 0, 20, 0, /* 7        WAIT until clock 0 reads at least 20 */
+    GURVOKE_AT_LEAST, 0, 20, 0, /* 7        WAIT until clock 0 reads at least 20 */
     0, CORER, 2, 0, /* 8        GOAL corer = 2 */
     0, RELEASE, 1, 0, /* 9    GOAL release = 1 */
 };
@@ -42,24 +45,6 @@ static const uint8_t at_rest[VARIABLES] = {0, 0, 0, 0};
 static const uint8_t when_safe[VARIABLES] = {0, 0, 0, 1};
 
 static const char *const names[VARIABLES] = {"lamp", "corer", "frame", "release"};
-
-static const char *const texts[] = {
-    [GURVOKE_FILE_TOO_SHORT] = "the file is under 3 bytes",
-    [GURVOKE_SIZE_OUT_OF_RANGE] = "a size is outside its range",
-    [GURVOKE_WRONG_LENGTH] = "the file's length does not fit its number of parts",
-    [GURVOKE_UNKNOWN_KIND] = "unknown kind",
-    [GURVOKE_OPERAND_NOT_ALLOWED] = "operand not allowed",
-    [GURVOKE_NOT_ONE_TREE] = "the parts do not form exactly one tree",
-    [GURVOKE_TOO_DEEP] = "the program is too deep",
-    [GURVOKE_BUFFER_TOO_SHORT] = "the output buffer is too short",
-    [GURVOKE_NOT_A_TABLE] = "the table is damaged",
-    [GURVOKE_RECORD_NOT_ALLOWED] = "the record is damaged",
-    [GURVOKE_WRONG_PHASE] = "offer or settling out of turn",
-    [GURVOKE_TIME_BEFORE_LAST] = "the clock went backwards",
-    [GURVOKE_ESTIMATE_NOT_ALLOWED] = "the sensors gave a value that no variable has",
-    [GURVOKE_RUN_FINISHED] = "the run is finished",
-    [GURVOKE_NOTHING_AT_WORK] = "nothing is left that could go on",
-};
 
 /* How a run stands. */
 enum state { RUNNING, FINISHED, SAFE };
@@ -77,11 +62,48 @@ static void read_sensors(uint8_t *values);
 static void command(int variable, uint8_t value);
 static void sleep_until_next_cycle(void);
 
-static void report_refusal(const char *call, uint32_t number)
+static const char *text_of(uint32_t refusal)
 {
-    const char *text = number < sizeof texts / sizeof texts[0] ? texts[number] : "unknown answer";
-    printf("%3lu s  %s refused with %lu: %s\n", (unsigned long)now, call, (unsigned long)number,
-           text);
+    switch (refusal) {
+    case GURVOKE_FILE_TOO_SHORT:
+        return "the file is too short to hold its sizes";
+    case GURVOKE_SIZE_OUT_OF_RANGE:
+        return "a size is outside its range";
+    case GURVOKE_WRONG_LENGTH:
+        return "the file's length does not fit its number of parts";
+    case GURVOKE_UNKNOWN_KIND:
+        return "unknown kind";
+    case GURVOKE_OPERAND_NOT_ALLOWED:
+        return "operand not allowed";
+    case GURVOKE_NOT_ONE_TREE:
+        return "the parts do not form exactly one tree";
+    case GURVOKE_TOO_DEEP:
+        return "the program is too deep";
+    case GURVOKE_BUFFER_TOO_SHORT:
+        return "the output buffer is too short";
+    case GURVOKE_NOT_A_TABLE:
+        return "the table is damaged";
+    case GURVOKE_RECORD_NOT_ALLOWED:
+        return "the record is damaged";
+    case GURVOKE_WRONG_PHASE:
+        return "offer or settling out of turn";
+    case GURVOKE_TIME_BEFORE_LAST:
+        return "the clock went backwards";
+    case GURVOKE_ESTIMATE_NOT_ALLOWED:
+        return "the sensors gave a value that no variable has";
+    case GURVOKE_RUN_FINISHED:
+        return "the run is finished";
+    case GURVOKE_NOTHING_AT_WORK:
+        return "nothing is left that could go on";
+    default:
+        return "unknown answer";
+    }
+}
+
+static void report_refusal(const char *call, uint32_t refusal)
+{
+    printf("%3lu s  %s refused with %lu: %s\n", (unsigned long)now, call, (unsigned long)refusal,
+           text_of(refusal));
 }
 
 static void command_all(const uint8_t *values)
@@ -153,7 +175,7 @@ static uint32_t settle(void)
         read_sensors(estimate);
         uint32_t answer =
             gurvoke_settle(table, table_len, record, sizeof record, estimate, sizeof estimate);
-        if (answer >= GURVOKE_ANSWERED)
+        if (!GURVOKE_IS_REFUSAL(answer))
             return answer;
         report_refusal("settling", answer);
         if (!can_go_on(answer) || tries == 3)
@@ -170,13 +192,12 @@ static void print_bytes(const char *title, const uint8_t *bytes)
 
 static void report_cycle(uint32_t offered, uint32_t settled)
 {
-    uint32_t contested = offered - GURVOKE_ANSWERED;
     printf("%3lu s", (unsigned long)now);
     print_bytes("goals", goals);
     print_bytes("estimate", estimate);
     printf("  %s", settled == GURVOKE_FINISHED ? "finished" : "running");
-    if (contested != GURVOKE_NONE)
-        printf(", %s contested", names[contested]);
+    if (!GURVOKE_NAMES_NONE(offered))
+        printf(", %s contested", names[GURVOKE_NAMED(offered)]);
     printf("\n");
 }
 
@@ -186,7 +207,7 @@ static enum state cycle(void)
     now = read_clock();
     uint32_t offered =
         gurvoke_offer(table, table_len, record, sizeof record, now, goals, sizeof goals);
-    if (offered < GURVOKE_ANSWERED) {
+    if (GURVOKE_IS_REFUSAL(offered)) {
         report_refusal("offer", offered);
         return can_go_on(offered) ? RUNNING : SAFE;
     }
@@ -194,7 +215,7 @@ static enum state cycle(void)
     command_goals();
 
     uint32_t settled = settle();
-    if (settled < GURVOKE_ANSWERED)
+    if (GURVOKE_IS_REFUSAL(settled))
         return SAFE;
     report_cycle(offered, settled);
     return settled == GURVOKE_FINISHED ? FINISHED : RUNNING;
@@ -313,7 +334,7 @@ static void sleep_until_next_cycle(void)
 {
     moment++;
     if (script[moment].fault == TABLE_HIT)
-        table[GURVOKE_TABLE_LENGTH(5) + 1] ^= 1; /* the end of part 5 */
+        table[GURVOKE_ROW_PLACE(5) + GURVOKE_END_PLACE] ^= 1; /* the end of part 5 */
     if (script[moment].fault == RECORD_HIT)
-        record[GURVOKE_RECORD - GURVOKE_MAX_PARTS + 9] ^= 1; /* the mark of part 9 */
+        record[GURVOKE_MARKS_PLACE + 9] ^= 1; /* the mark of part 9 */
 }

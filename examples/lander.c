@@ -11,12 +11,15 @@ enum { LAMP, CORER, FRAME, RELEASE, VARIABLES };
 /* The corer is at 1 while it works and at 2 when the core is taken; the frame is level at 0. */
 static const uint8_t program[] = {
     7, VARIABLES, 1, /* seven parts, four variables, one clock */
-    4, 1, 2, 3, 6, 1, 1, /* the parts' kinds, then their operands: */
+    /* the parts' kinds, */
+    GURVOKE_SEQ, GURVOKE_GOAL, GURVOKE_START, GURVOKE_WAIT, GURVOKE_MAINTAIN, GURVOKE_GOAL,
+    GURVOKE_GOAL,
+    /* then their operands: */
     5, 0, 0, 0, /* 0  SEQ of five */
     0, LAMP, 1, 0, /* 1    GOAL lamp = 1 */
     0, 0, 0, 0, /* 2    START clock 0 */
-    3, 0, 10, 0, /* 3    WAIT until clock 0 reads at least 10 */
-    1, FRAME, 0, 0, /* 4    MAINTAIN frame = 0 */
+    GURVOKE_AT_LEAST, 0, 10, 0, /* 3    WAIT until clock 0 reads at least 10 */
+    GURVOKE_EQUALS, FRAME, 0, 0, /* 4    MAINTAIN frame = 0 */
     0, CORER, 2, 0, /* 5      GOAL corer = 2 */
     0, RELEASE, 1, 0, /* 6    GOAL release = 1 */
 };
@@ -25,11 +28,11 @@ static const uint8_t program[] = {
  * 25 seconds on the frame is tilted. */
 static void act(uint32_t time, const uint8_t *goals, uint8_t *estimate)
 {
-    if (goals[LAMP] <= 250)
+    if (goals[LAMP] <= GURVOKE_MAX_VALUE)
         estimate[LAMP] = goals[LAMP];
-    if (goals[CORER] <= 250 && estimate[CORER] == 0)
+    if (goals[CORER] <= GURVOKE_MAX_VALUE && estimate[CORER] == 0)
         estimate[CORER] = 1;
-    if (goals[RELEASE] <= 250)
+    if (goals[RELEASE] <= GURVOKE_MAX_VALUE)
         estimate[RELEASE] = goals[RELEASE];
     estimate[FRAME] = time >= 25;
 }
@@ -45,8 +48,8 @@ static void show(uint32_t time, const uint8_t *goals, uint32_t offered, uint32_t
     printf("%3lu s  goals", (unsigned long)time);
     for (size_t v = 0; v < VARIABLES; v++)
         printf(" %02X", goals[v]);
-    if (offered != GURVOKE_ANSWERED + GURVOKE_NONE)
-        printf("  variable %lu is contested", (unsigned long)(offered - GURVOKE_ANSWERED));
+    if (!GURVOKE_NAMES_NONE(offered))
+        printf("  variable %lu is contested", (unsigned long)GURVOKE_NAMED(offered));
     printf("  %s\n", settled == GURVOKE_FINISHED ? "finished" : "running");
 }
 
@@ -58,25 +61,25 @@ int main(void)
     uint8_t goals[VARIABLES];
 
     uint32_t read = gurvoke_compile(program, sizeof program, table, sizeof table);
-    if (read != 0)
+    if (GURVOKE_IS_REFUSAL(read))
         return refused("reading", read);
-    size_t table_len = 3 + 8 * (size_t)table[0];
+    size_t table_len = GURVOKE_TABLE_LENGTH(table[0]);
 
     uint32_t begun = gurvoke_begin(table, table_len, estimate, sizeof estimate, record, sizeof record);
-    if (begun != 0)
+    if (GURVOKE_IS_REFUSAL(begun))
         return refused("beginning", begun);
 
     for (uint32_t time = 0;; time += 5) {
         uint32_t offered =
             gurvoke_offer(table, table_len, record, sizeof record, time, goals, sizeof goals);
-        if (offered < GURVOKE_ANSWERED)
+        if (GURVOKE_IS_REFUSAL(offered))
             return refused("offer", offered);
 
         act(time, goals, estimate);
 
         uint32_t settled = gurvoke_settle(table, table_len, record, sizeof record, estimate,
                                           sizeof estimate);
-        if (settled < GURVOKE_ANSWERED)
+        if (GURVOKE_IS_REFUSAL(settled))
             return refused("settling", settled);
 
         show(time, goals, offered, settled);

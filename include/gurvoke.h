@@ -19,6 +19,17 @@
  *   it takes less than 2 KiB on x86-64 (docs/PERFORMANCE.md). The two functions that the library
  *   needs from elsewhere are memset and memcpy.
  *
+ * A record and its table
+ *   A record belongs to the table with which its run began, and every later call of the run must have
+ *   the same table. Nothing in a record's bytes names its table. A record that comes with another
+ *   table is the caller's mistake. It is noticed only where the record is not allowed with that
+ *   table (GURVOKE_RECORD_NOT_ALLOWED); elsewhere the call goes on with what the marks mean there.
+ *
+ * Processors
+ *   The archive that `rt staticlib gurvoke` writes is for x86-64: ELF objects with the System V
+ *   calling convention, and no instructions beyond those that every x86-64 processor has. This
+ *   header, the bytes of files, tables and records, and the answers are the same on any processor.
+ *
  * Threads and interrupts
  *   Calls may run at the same time, in threads or in interrupts, if no buffer that one of them
  *   writes is in use by another. So several runs may share one table.
@@ -39,40 +50,129 @@
 extern "C" {
 #endif
 
-/* The most parts, variables and clocks of a program, and the largest value of a variable. */
+/*
+ * The version of this interface. The major number grows when something that was there changes its
+ * meaning or goes: a function, a number, or the layout of files, tables or records, so that those
+ * stored before have to be made anew. The minor number grows when something is added; it begins at
+ * 0 with each major number.
+ */
+#define GURVOKE_VERSION_MAJOR 1
+#define GURVOKE_VERSION_MINOR 0
+
+/*
+ * The most parts, variables and clocks of a program, the depth of its deepest part (the root has
+ * depth 1), and the largest value of a variable.
+ */
 #define GURVOKE_MAX_PARTS 200
 #define GURVOKE_MAX_VARIABLES 32
 #define GURVOKE_MAX_CLOCKS 16
+#define GURVOKE_MAX_DEPTH 16
 #define GURVOKE_MAX_VALUE 250
 
-/* The longest program file and the longest location table, in bytes. */
-#define GURVOKE_MAX_FILE 1003
-#define GURVOKE_MAX_TABLE 1603
+/*
+ * How many bytes it takes to hold a number of parts or a part's number, a kind, a number of
+ * variables or of clocks, an operand, and a time. Numbers of several bytes have their low byte first.
+ */
+#define GURVOKE_NUMBER 1
+#define GURVOKE_KIND 1
+#define GURVOKE_COUNT 1
+#define GURVOKE_OPERAND 4
+#define GURVOKE_TIME 4
 
 /*
- * The lengths of the file and of the table of a program with so many parts. The number of parts is
- * the first byte of both.
+ * Every file and every table begins with its sizes: the number of parts, and at these places the
+ * numbers of variables and of clocks. GURVOKE_HEADER is the length of the three.
  */
-#define GURVOKE_FILE_LENGTH(parts) (3 + 5 * (size_t)(parts))
-#define GURVOKE_TABLE_LENGTH(parts) (3 + 8 * (size_t)(parts))
+#define GURVOKE_VARIABLES_PLACE (GURVOKE_NUMBER)
+#define GURVOKE_CLOCKS_PLACE (GURVOKE_VARIABLES_PLACE + GURVOKE_COUNT)
+#define GURVOKE_HEADER (GURVOKE_CLOCKS_PLACE + GURVOKE_COUNT)
 
-/* The length of a run record, in bytes. */
-#define GURVOKE_RECORD 317
+/*
+ * A row of a table: the kind, and at these places the part's end (one past its last descendant), its
+ * parent, its next and its operand. GURVOKE_ROW is the length of a row. GURVOKE_NO_PART stands for
+ * no parent or no next.
+ */
+#define GURVOKE_END_PLACE (GURVOKE_KIND)
+#define GURVOKE_PARENT_PLACE (GURVOKE_END_PLACE + GURVOKE_NUMBER)
+#define GURVOKE_NEXT_PLACE (GURVOKE_PARENT_PLACE + GURVOKE_NUMBER)
+#define GURVOKE_OPERAND_PLACE (GURVOKE_NEXT_PLACE + GURVOKE_NUMBER)
+#define GURVOKE_ROW (GURVOKE_OPERAND_PLACE + GURVOKE_OPERAND)
+#define GURVOKE_NO_PART 255
+
+/* The longest program file and the longest location table, in bytes. */
+#define GURVOKE_MAX_FILE \
+    (GURVOKE_HEADER + (GURVOKE_KIND + GURVOKE_OPERAND) * GURVOKE_MAX_PARTS)
+#define GURVOKE_MAX_TABLE (GURVOKE_HEADER + GURVOKE_ROW * GURVOKE_MAX_PARTS)
+
+/*
+ * The lengths of the file and of the table of a program with so many parts, and where the row of a
+ * part begins in a table. The number of parts is the first byte of a file and of a table.
+ */
+#define GURVOKE_FILE_LENGTH(parts) \
+    (GURVOKE_HEADER + (GURVOKE_KIND + GURVOKE_OPERAND) * (size_t)(parts))
+#define GURVOKE_TABLE_LENGTH(parts) (GURVOKE_HEADER + GURVOKE_ROW * (size_t)(parts))
+#define GURVOKE_ROW_PLACE(part) GURVOKE_TABLE_LENGTH(part)
+
+/*
+ * A run record: the phase, the last time, the estimate (a byte for each variable), which clocks are
+ * started (a byte for each), when they were started (a time for each), and the marks (a byte for
+ * each part), at these places. GURVOKE_RECORD is its length in bytes. It has room for the most
+ * variables, clocks and parts; what a program does not have is 0.
+ */
+#define GURVOKE_PHASE_PLACE 0
+#define GURVOKE_TIME_PLACE (GURVOKE_PHASE_PLACE + 1)
+#define GURVOKE_ESTIMATE_PLACE (GURVOKE_TIME_PLACE + GURVOKE_TIME)
+#define GURVOKE_STARTED_PLACE (GURVOKE_ESTIMATE_PLACE + GURVOKE_MAX_VARIABLES)
+#define GURVOKE_STARTS_PLACE (GURVOKE_STARTED_PLACE + GURVOKE_MAX_CLOCKS)
+#define GURVOKE_MARKS_PLACE (GURVOKE_STARTS_PLACE + GURVOKE_TIME * GURVOKE_MAX_CLOCKS)
+#define GURVOKE_RECORD (GURVOKE_MARKS_PLACE + GURVOKE_MAX_PARTS)
+
+/* Where the start time of a clock stands in a record. */
+#define GURVOKE_START_PLACE(clock) (GURVOKE_STARTS_PLACE + GURVOKE_TIME * (size_t)(clock))
+
+/* The bytes of a part that is not marked, of one that is, and of a clock that is started. */
+#define GURVOKE_UNMARKED 0
+#define GURVOKE_MARKED 1
+#define GURVOKE_STARTED 1
+
+/* The phases: the run waits for an offer, goals are offered and it waits for a settling, finished. */
+#define GURVOKE_PHASE_WAITING 0
+#define GURVOKE_PHASE_OFFERED 1
+#define GURVOKE_PHASE_FINISHED 2
+
+/* The kinds of parts. */
+#define GURVOKE_GOAL 1
+#define GURVOKE_START 2
+#define GURVOKE_WAIT 3
+#define GURVOKE_SEQ 4
+#define GURVOKE_PAR 5
+#define GURVOKE_MAINTAIN 6
+#define GURVOKE_CHOICE 7
+#define GURVOKE_REPEAT 8
+
+/*
+ * The tests of a condition: the variable equals the value, or differs from it; the clock reads at
+ * least the value, or below it.
+ */
+#define GURVOKE_EQUALS 1
+#define GURVOKE_DIFFERS 2
+#define GURVOKE_AT_LEAST 3
+#define GURVOKE_BELOW 4
 
 /* The refusals. */
-#define GURVOKE_FILE_TOO_SHORT 1 /* file under 3 bytes */
-#define GURVOKE_SIZE_OUT_OF_RANGE 2 /* not 1 to 200 parts, 1 to 32 variables, 0 to 16 clocks */
-#define GURVOKE_WRONG_LENGTH 3 /* length of the file not 3 + 5 * parts */
-#define GURVOKE_UNKNOWN_KIND 4 /* a kind that is not 1 to 8 */
+#define GURVOKE_FILE_TOO_SHORT 1 /* file under GURVOKE_HEADER bytes */
+#define GURVOKE_SIZE_OUT_OF_RANGE 2 /* no part, no variable, or more than the most of something */
+#define GURVOKE_WRONG_LENGTH 3 /* length of the file not GURVOKE_FILE_LENGTH(parts) */
+#define GURVOKE_UNKNOWN_KIND 4 /* a kind that is none of those above */
 #define GURVOKE_OPERAND_NOT_ALLOWED 5 /* an operand that its kind does not allow */
 #define GURVOKE_NOT_ONE_TREE 6 /* the arrays do not form exactly one tree */
-#define GURVOKE_TOO_DEEP 7 /* depth above 16 */
+#define GURVOKE_TOO_DEEP 7 /* depth above GURVOKE_MAX_DEPTH */
 #define GURVOKE_BUFFER_TOO_SHORT 8 /* output buffer too short */
 #define GURVOKE_NOT_A_TABLE 9 /* bytes not the table of any file */
-#define GURVOKE_RECORD_NOT_ALLOWED 10 /* record not allowed, or under 317 bytes */
+#define GURVOKE_RECORD_NOT_ALLOWED 10 /* record not allowed, or under GURVOKE_RECORD bytes */
 #define GURVOKE_WRONG_PHASE 11 /* settling before an offer, or a second offer before the settling */
 #define GURVOKE_TIME_BEFORE_LAST 12 /* time before the last time */
-#define GURVOKE_ESTIMATE_NOT_ALLOWED 13 /* not one byte for each variable, or one above 250 */
+#define GURVOKE_ESTIMATE_NOT_ALLOWED 13 /* not a byte for each variable, or one too large */
 #define GURVOKE_RUN_FINISHED 14 /* the run is finished */
 #define GURVOKE_NOTHING_AT_WORK 15 /* after settling, root not ended, yet no leaf or deciding CHOICE
                                       marked (no such record is known) */
@@ -82,9 +182,19 @@ extern "C" {
  * variable, or + GURVOKE_NONE where none is contested; of a settling one of the next two.
  */
 #define GURVOKE_ANSWERED 256
-#define GURVOKE_RUNNING 256
-#define GURVOKE_FINISHED 257
+#define GURVOKE_RUNNING (GURVOKE_ANSWERED)
+#define GURVOKE_FINISHED (GURVOKE_ANSWERED + 1)
 #define GURVOKE_NONE 255
+
+/* Whether the answer of any call is a refusal. */
+#define GURVOKE_IS_REFUSAL(answer) ((uint32_t)(answer) - 1u < GURVOKE_ANSWERED - 1u)
+
+/*
+ * The contested variable that the answer of an accepted offer names, GURVOKE_NONE where none is
+ * contested, and whether that is so.
+ */
+#define GURVOKE_NAMED(answer) ((uint32_t)(answer) - GURVOKE_ANSWERED)
+#define GURVOKE_NAMES_NONE(answer) (GURVOKE_NAMED(answer) == GURVOKE_NONE)
 
 /* A goal byte that is no value: no goal for that variable, or two goals that differ. */
 #define GURVOKE_NO_GOAL 255
@@ -116,7 +226,7 @@ uint32_t gurvoke_begin(const uint8_t *table, size_t table_len, const uint8_t *es
 
 /*
  * Offers the goals of a cycle at a time in whole seconds, not before the last one: writes one
- * byte for each variable to the start of `goals`, a value from 0 to 250, GURVOKE_NO_GOAL or
+ * byte for each variable to the start of `goals`, a value up to GURVOKE_MAX_VALUE, GURVOKE_NO_GOAL or
  * GURVOKE_CONTESTED, and the cycle into the record. Further bytes of `goals` and `record` stay as
  * they are. Answers a refusal (9, 10, 14, 11, 12, 8), or GURVOKE_ANSWERED + a variable whose goal
  * byte is GURVOKE_CONTESTED, or GURVOKE_ANSWERED + GURVOKE_NONE where there is none.
