@@ -26,8 +26,12 @@ pub const COUNT_LEN: usize = 1;
 pub const KIND_LEN: usize = 1;
 /// Bytes of an operand.
 pub const OPERAND_LEN: usize = 4;
+/// Where the number of variables stands in the sizes.
+pub const VARIABLES: usize = NUMBER_LEN;
+/// Where the number of clocks stands in the sizes.
+pub const CLOCKS: usize = VARIABLES + 1;
 /// Bytes of the sizes that begin every file and every table.
-pub const SIZES_LEN: usize = NUMBER_LEN + 2;
+pub const SIZES_LEN: usize = CLOCKS + 1;
 /// Bytes of one part in a file: its kind and its operand.
 pub const PART_LEN: usize = KIND_LEN + OPERAND_LEN;
 /// Bytes of one row of a table: kind, end, parent, next and operand.
@@ -75,8 +79,8 @@ impl Sizes {
         let sizes = bytes.get(..SIZES_LEN)?;
         Some(Sizes {
             parts: number_of(&sizes[..NUMBER_LEN]),
-            variables: usize::from(sizes[NUMBER_LEN]),
-            clocks: usize::from(sizes[NUMBER_LEN + 1]),
+            variables: usize::from(sizes[VARIABLES]),
+            clocks: usize::from(sizes[CLOCKS]),
         })
     }
 
