@@ -3,7 +3,8 @@
  * prefix, with the same answers and buffers.
  *
  * It is written from document 01, with nothing proved, as one would write it for a board. The tests
- * of the library run on it too, and bin/performance compares the library's cost with its cost.
+ * of the library run on it too, and bin/performance compares the library's cost with its cost. It is
+ * one file, so that the compiler has all of it at hand, as it has all of the library.
  */
 #include <stdbool.h>
 #include <stddef.h>
@@ -16,7 +17,8 @@ enum {
     MAX_CLOCKS = 16,
     MAX_DEPTH = 16,
     MAX_VALUE = 250,
-    NONE = 255 /* no parent, no next, no contested variable */
+    NO_PART = 255, /* no parent, no next */
+    NONE = 255 /* no contested variable */
 };
 
 /* The sizes that begin every file and every table. */
@@ -44,7 +46,7 @@ enum {
 };
 
 /* The phases. */
-enum { WAITING, OFFERED, FINISHED };
+enum { PHASE_WAITING, PHASE_OFFERED, PHASE_FINISHED };
 
 /* The goal bytes that are no values. */
 enum { CONTESTED = 254, NO_GOAL = 255 };
@@ -69,7 +71,7 @@ enum {
     NOTHING_AT_WORK,
     ANSWERED = 256,
     RUNNING = ANSWERED,
-    JUST_FINISHED
+    FINISHED
 };
 
 /* Programs: what files and tables have in common. */
@@ -144,11 +146,11 @@ static uint8_t next_of(unsigned child, unsigned end, unsigned parent_kind, bool 
 {
     switch (parent_kind) {
     case SEQ:
-        return is_last ? NONE : (uint8_t)end;
+        return is_last ? NO_PART : (uint8_t)end;
     case REPEAT:
         return (uint8_t)child;
     default:
-        return NONE;
+        return NO_PART;
     }
 }
 
@@ -209,8 +211,8 @@ static void write_table(const uint8_t *file, const uint8_t *ends, uint8_t *table
     const uint8_t *operands = kinds + parts;
     uint8_t *rows = table + SIZES_LEN;
     memcpy(table, file, SIZES_LEN);
-    rows[PARENT] = NONE;
-    rows[NEXT] = NONE;
+    rows[PARENT] = NO_PART;
+    rows[NEXT] = NO_PART;
     for (unsigned part = 0; part < parts; part++) {
         uint8_t *row = rows + ROW_LEN * part;
         uint8_t kind = kinds[part];
@@ -280,7 +282,7 @@ static bool is_table(const uint8_t *table, size_t len)
     if (len != SIZES_LEN + ROW_LEN * parts)
         return false;
     const uint8_t *root = row_of(table, 0);
-    if (root[END] != parts || root[PARENT] != NONE || root[NEXT] != NONE)
+    if (root[END] != parts || root[PARENT] != NO_PART || root[NEXT] != NO_PART)
         return false;
     depths[0] = 1;
     for (unsigned part = 0; part < parts; part++) {
@@ -375,7 +377,7 @@ static bool count_allowed(unsigned kind, unsigned count, unsigned phase)
     case PAR:
         return count >= 1;
     case MAINTAIN:
-        return count == 1 || phase == OFFERED;
+        return count == 1 || phase == PHASE_OFFERED;
     case CHOICE:
         return count <= 1;
     default:
@@ -405,7 +407,7 @@ static bool marks_allowed(const uint8_t *table, const uint8_t *marks, unsigned p
 
 static bool record_allowed(const uint8_t *table, const uint8_t *record, size_t len)
 {
-    if (len < RECORD_LEN || record[PHASE] > FINISHED)
+    if (len < RECORD_LEN || record[PHASE] > PHASE_FINISHED)
         return false;
     const uint8_t *estimate = record + ESTIMATE;
     if (!values_allowed(estimate, table[VARIABLES]) ||
@@ -414,7 +416,7 @@ static bool record_allowed(const uint8_t *table, const uint8_t *record, size_t l
     if (!clocks_allowed(record, table[CLOCKS]))
         return false;
     const uint8_t *marks = record + MARKS;
-    if (record[PHASE] == FINISHED)
+    if (record[PHASE] == PHASE_FINISHED)
         return all_zero(marks, 0, MAX_PARTS);
     return all_zero(marks, table[PARTS], MAX_PARTS) && marks_allowed(table, marks, record[PHASE]);
 }
@@ -470,7 +472,7 @@ static uint32_t check_run(const uint8_t *table, size_t table_len, const uint8_t 
         return NOT_A_TABLE;
     if (!record_allowed(table, record, record_len))
         return RECORD_NOT_ALLOWED;
-    if (record[PHASE] == FINISHED)
+    if (record[PHASE] == PHASE_FINISHED)
         return RUN_FINISHED;
     if (record[PHASE] != phase)
         return WRONG_PHASE;
@@ -535,14 +537,14 @@ static unsigned contested(const uint8_t *goals, unsigned variables)
 uint32_t board_offer(const uint8_t *table, size_t table_len, uint8_t *record, size_t record_len,
                      uint32_t time, uint8_t *goals, size_t goals_len)
 {
-    uint32_t refusal = check_run(table, table_len, record, record_len, WAITING);
+    uint32_t refusal = check_run(table, table_len, record, record_len, PHASE_WAITING);
     if (refusal != DONE)
         return refusal;
     if (time < read_time(record + TIME))
         return TIME_BEFORE_LAST;
     if (goals_len < table[VARIABLES])
         return BUFFER_TOO_SHORT;
-    record[PHASE] = OFFERED;
+    record[PHASE] = PHASE_OFFERED;
     write_time(record + TIME, time);
     offer_goals(table, record, goals);
     return ANSWERED + contested(goals, table[VARIABLES]);
@@ -597,7 +599,7 @@ static void settle_marks(const uint8_t *table, const uint8_t *record, const uint
             initialise(table, chosen_branch(table, part, record, estimate), after);
         } else if (part_ends(table, part, record, estimate, after)) {
             after[part] = 0;
-            if (row[NEXT] != NONE)
+            if (row[NEXT] != NO_PART)
                 initialise(table, row[NEXT], after);
         }
     }
@@ -638,7 +640,7 @@ uint32_t board_settle(const uint8_t *table, size_t table_len, uint8_t *record, s
                       const uint8_t *estimate, size_t estimate_len)
 {
     uint8_t after[MAX_PARTS];
-    uint32_t refusal = check_run(table, table_len, record, record_len, OFFERED);
+    uint32_t refusal = check_run(table, table_len, record, record_len, PHASE_OFFERED);
     if (refusal != DONE)
         return refusal;
     if (!estimate_allowed(table, estimate, estimate_len))
@@ -648,8 +650,8 @@ uint32_t board_settle(const uint8_t *table, size_t table_len, uint8_t *record, s
     if (!finished && !goes_on(table, after))
         return NOTHING_AT_WORK;
     start_clocks(table, record);
-    record[PHASE] = finished ? FINISHED : WAITING;
+    record[PHASE] = finished ? PHASE_FINISHED : PHASE_WAITING;
     memcpy(record + ESTIMATE, estimate, estimate_len);
     memcpy(record + MARKS, after, MAX_PARTS);
-    return finished ? JUST_FINISHED : RUNNING;
+    return finished ? FINISHED : RUNNING;
 }

@@ -9,11 +9,11 @@ pub struct Executive {
     pub compile: fn(&[u8], &mut [u8]) -> Result<(), u32>,
     /// Table, file: the refusal, or nothing.
     pub decompile: fn(&[u8], &mut [u8]) -> Result<(), u32>,
-    /// Table, first estimate, record: 0, or the refusal.
+    /// Table, first estimate, record: `DONE`, or the refusal.
     pub begin: fn(&[u8], &[u8], &mut [u8]) -> u32,
-    /// Table, record, time, goals: the refusal, or 256 and the contested variable that is named.
+    /// Table, record, time, goals: the refusal, or `ANSWERED` and the contested variable named.
     pub offer: fn(&[u8], &mut [u8], u32, &mut [u8]) -> u32,
-    /// Table, record, estimate: the refusal, 256 while the run goes on, 257 when it has finished.
+    /// Table, record, estimate: the refusal, or whether the run goes on (`RUNNING`, `FINISHED`).
     pub settle: fn(&[u8], &mut [u8], &[u8]) -> u32,
 }
 

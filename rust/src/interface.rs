@@ -67,7 +67,7 @@ macro_rules! c_interface {
             $crate::answer(number)
         }
 
-        /// Begins a run of `table` in `record`. The answer is 0, or the refusal's number.
+        /// Begins a run of `table` in `record`. The answer is `DONE`, or the refusal's number.
         pub fn begin(table: &[u8], estimate: &[u8], record: &mut [u8]) -> u32 {
             // SAFETY: the pointers come from slices of the given lengths, which do not overlap.
             unsafe {
@@ -82,8 +82,8 @@ macro_rules! c_interface {
             }
         }
 
-        /// Offers the goals of a cycle at this time. The answer is the refusal's number, or 256 and
-        /// the contested variable that is named, which is 255 where there is none.
+        /// Offers the goals of a cycle at this time. The answer is the refusal's number, or
+        /// `ANSWERED` and the contested variable that is named, `NO_VARIABLE` where there is none.
         pub fn offer(table: &[u8], record: &mut [u8], time: u32, goals: &mut [u8]) -> u32 {
             // SAFETY: the pointers come from slices of the given lengths, which do not overlap.
             unsafe {
@@ -99,8 +99,8 @@ macro_rules! c_interface {
             }
         }
 
-        /// Settles a cycle with this estimate. The answer is the refusal's number, 256 while the
-        /// run goes on, or 257 when it has finished.
+        /// Settles a cycle with this estimate. The answer is the refusal's number, `RUNNING` while
+        /// the run goes on, or `FINISHED`.
         pub fn settle(table: &[u8], record: &mut [u8], estimate: &[u8]) -> u32 {
             // SAFETY: the pointers come from slices of the given lengths, which do not overlap.
             unsafe {

@@ -30,7 +30,7 @@ type Record = [u8; RECORD_LEN];
 /// The marks of all the parts that a program can have.
 type Marks = [u8; MAX_PARTS];
 
-/// Begins a run: 0, or the refusal.
+/// Begins a run: `DONE`, or the refusal.
 pub fn begin(table: &[u8], estimate: &[u8], record: &mut [u8]) -> u32 {
     let Some(table) = Table::read(table) else {
         return NOT_A_TABLE;
@@ -47,7 +47,7 @@ pub fn begin(table: &[u8], estimate: &[u8], record: &mut [u8]) -> u32 {
     DONE
 }
 
-/// Offers the goals of a cycle: the refusal, or 256 and the contested variable that is named.
+/// Offers the goals of a cycle: the refusal, or `ANSWERED` and the contested variable named.
 pub fn offer(table: &[u8], record: &mut [u8], time: u32, goals: &mut [u8]) -> u32 {
     let (table, record) = match examine(table, record, WAITING) {
         Ok(run) => run,
@@ -68,7 +68,7 @@ pub fn offer(table: &[u8], record: &mut [u8], time: u32, goals: &mut [u8]) -> u3
     ANSWERED + u32::from(named)
 }
 
-/// Settles a cycle: the refusal, or 256 while the run goes on and 257 when it has finished.
+/// Settles a cycle: the refusal, or whether the run goes on (`RUNNING`, `FINISHED`).
 pub fn settle(table: &[u8], record: &mut [u8], estimate: &[u8]) -> u32 {
     let (table, record) = match examine(table, record, OFFERED) {
         Ok(run) => run,
