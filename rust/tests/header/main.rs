@@ -15,19 +15,10 @@ use code::Code;
 use macros::{evaluate, object_macros};
 
 /// Constants of the proved code that a board has no use for.
-const NOT_FOR_BOARDS: [&str; 3] = ["LINKS", "MAX_MARKS", "BYTE_VALUES"];
+const NOT_FOR_BOARDS: [&str; 2] = ["MAX_MARKS", "BYTE_VALUES"];
 
 /// Macros that only C has.
 const ONLY_IN_C: [&str; 2] = ["VERSION_MAJOR", "VERSION_MINOR"];
-
-/// Numbers that the proved code need not have under a name. Where it names them, they are compared.
-const NEED_NO_NAME: [&str; 5] = [
-    "GOAL START WAIT SEQ PAR MAINTAIN CHOICE REPEAT",
-    "EQUALS DIFFERS AT_LEAST BELOW",
-    "NUMBER KIND COUNT VARIABLES_PLACE CLOCKS_PLACE PHASE_PLACE",
-    "END_PLACE PARENT_PLACE NEXT_PLACE OPERAND_PLACE",
-    "UNMARKED MARKED STARTED",
-];
 
 /// Names and values.
 type Numbers = BTreeMap<String, u64>;
@@ -62,9 +53,7 @@ fn numbers_of(code: &Code) -> Numbers {
             assert_eq!(before, None, "{constant} stands for two things");
         }
     }
-    let none = agreed(code) - numbers["ANSWERED"];
-    let named = numbers.insert("NONE".to_string(), none);
-    assert!(named.is_none_or(|named| named == none), "{named:?}");
+    assert_eq!(agreed(code), numbers["ANSWERED"] + numbers["NONE"]);
     numbers
 }
 
@@ -168,11 +157,6 @@ fn limits_and_places() -> [(&'static str, usize); 31] {
     ]
 }
 
-fn needs_no_name(name: &str) -> bool {
-    let names = NEED_NO_NAME.iter().flat_map(|names| names.split(' '));
-    names.into_iter().any(|other| other == name)
-}
-
 /// Every number of the proved code stands in the header under its name, and the other way round.
 #[test]
 fn numbers_of_the_proved_code() {
@@ -182,11 +166,10 @@ fn numbers_of_the_proved_code() {
         assert_eq!(header.get(name), Some(number), "GURVOKE_{name}");
     }
     for name in header.keys() {
-        let found =
-            code.contains_key(name) || ONLY_IN_C.contains(&&name[..]) || needs_no_name(name);
+        let found = code.contains_key(name) || ONLY_IN_C.contains(&&name[..]);
         assert!(found, "the proved code has no number for GURVOKE_{name}");
     }
-    assert!(code.len() >= 40, "only {} numbers are found", code.len());
+    assert!(code.len() >= 65, "only {} numbers are found", code.len());
 }
 
 /// The refusals of the proved code are the paper's 15, in their order, and each has its number.
