@@ -12,7 +12,7 @@ use Rattle.base.specs.Lists.{all}
 use Rattle.base.proofs.Lists.{and-left, fails-of-one, all-first}
 use Rattle.meaning.specs.declared.Entry.{Entry}
 use Rattle.meaning.specs.Sizes.{maxValue}
-use Rattle.meaning.specs.Cycle.{contested, valuesFor, goalByte, goalBytes, Names}
+use Rattle.meaning.specs.Cycle.{noGoal, contested, valuesFor, goalByte, goalBytes, Names}
 use Rattle.meaning.proofs.Entries.{length-goals, byte-at}
 use Rattle.agreement.specs.Runs.{Differ, NamesContested}
 
@@ -21,7 +21,7 @@ Small xs = all (λ x. leb x maxValue) xs ≡ true
 
 -- The byte of a variable is 254 exactly where two of its values differ
 contested-differ : (xs : List ℕ) → Small xs → goalByte xs ≡ contested → Differ xs
-contested-differ [] s h = absurd (let z : _≡_ {A = ℕ} 255 254 = h in omega arith)
+contested-differ [] s h = absurd (let z : _≡_ {A = ℕ} noGoal contested = h in omega arith)
 contested-differ (x ∷ xs) s h = go (all (eqb x) xs) refl h
   where
     go : (b : Bool) → all (eqb x) xs ≡ b → cond b x contested ≡ contested → Differ (x ∷ xs)
