@@ -19,7 +19,6 @@ pub mod lent;
 pub mod model;
 pub mod programs;
 pub mod reference;
-pub mod registers;
 pub mod rehearsal;
 pub mod rng;
 pub mod runs;

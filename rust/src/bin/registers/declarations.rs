@@ -20,6 +20,7 @@ pub enum Kind {
 }
 
 /// All kinds.
+#[cfg(test)]
 pub const KINDS: [Kind; 6] = [
     Kind::Function,
     Kind::Item,

@@ -10,6 +10,7 @@ fn name_in(line: &str) -> Option<&str> {
 }
 
 /// The names of the registers that a document has a marker for.
+#[cfg(test)]
 pub fn names(text: &str) -> impl Iterator<Item = &str> {
     text.lines().filter_map(name_in)
 }

@@ -3,7 +3,9 @@
 use std::fs;
 use std::path::{Path, PathBuf};
 
-use super::declarations::{self, is_place, named, Declaration, KINDS};
+use super::declarations::{self, Declaration};
+#[cfg(test)]
+use super::declarations::{is_place, named, KINDS};
 
 /// Folders that the registers read.
 const SOURCES: [&str; 2] = ["crates", "rust/tests"];
@@ -76,10 +78,6 @@ impl Repository {
         fs::write(self.top.join(path), text).unwrap_or_else(|error| panic!("{path}: {error}"));
     }
 
-    pub fn has(&self, path: &str) -> bool {
-        self.top.join(path).exists()
-    }
-
     /// The paths of all documents.
     pub fn documents(&self) -> Vec<String> {
         let mut found = vec!["README.md".to_string()];
@@ -98,6 +96,21 @@ impl Repository {
         })
     }
 
+    /// Whether a crate has a function.
+    pub fn has_code(&self, name: &str) -> bool {
+        self.declarations
+            .iter()
+            .any(|declared| declared.crate_name == name && declared.is_function())
+    }
+}
+
+/// What the tests of the documents ask for.
+#[cfg(test)]
+impl Repository {
+    pub fn has(&self, path: &str) -> bool {
+        self.top.join(path).exists()
+    }
+
     /// Whether a word is a name: of what the crates declare, of a crate, of a file in one, or of a must-fail edit.
     pub fn knows(&self, word: &str) -> bool {
         let is_edit =
@@ -105,13 +118,6 @@ impl Repository {
         !named(&self.declarations, &KINDS, word).is_empty()
             || is_place(&self.declarations, word)
             || self.sources.iter().any(is_edit)
-    }
-
-    /// Whether a crate has a function.
-    pub fn has_code(&self, name: &str) -> bool {
-        self.declarations
-            .iter()
-            .any(|declared| declared.crate_name == name && declared.is_function())
     }
 }
 

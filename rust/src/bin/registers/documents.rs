@@ -1,6 +1,9 @@
 //! The documents name what is there, and their registers are up to date.
 
-use gurvoke::registers::{all, cells, marked, quoted, renewed, Repository};
+use super::markers::names as marked;
+use super::repository::Repository;
+use super::tables::{cells, quoted};
+use super::{all, renewed};
 
 /// Folders at the top of the repository, by which a name in a document is known to be a path.
 const FOLDERS: [&str; 5] = ["crates", "docs", "examples", "include", "rust"];
