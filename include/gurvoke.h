@@ -1,10 +1,10 @@
 /*
  * Gurvoke: the lander sequence executive.
  *
- * A program file holds a control program as document 01 lays down. Reading it gives its location
- * table, and the table gives the file back. A run of the table keeps its state in a run record and
- * proceeds in cycles: an offer (a time goes in, goals come out), then a settling (the new estimate
- * goes in). examples/lander.c is a complete run, examples/board.c a board's main loop.
+ * A program file holds a control program as document 01 lays down. Compiling it gives its location
+ * table, and decompiling the table gives the file back. A run of the table keeps its state in a
+ * run record and proceeds in cycles: an offer (a time goes in, goals come out), then a settling (the
+ * new estimate goes in). examples/lander.c is a complete run, examples/board.c a board's main loop.
  *
  * Buffers
  *   A buffer passes as a pointer to its first byte and then its length in bytes. It may stand at
@@ -35,7 +35,7 @@
  *   writes is in use by another. So several runs may share one table.
  *
  * Answers
- *   An answer below GURVOKE_ANSWERED is 0 (done: reading, giving back, beginning) or the number of
+ *   An answer below GURVOKE_ANSWERED is 0 (done: compile, decompile, begin) or the number of
  *   a refusal. A refused call changes no byte of any buffer. Where several refusals apply, the
  *   order stands at each function. Buffers may hold any bytes: those that are no file, table,
  *   record or estimate are refused.
@@ -201,14 +201,14 @@ extern "C" {
 #define GURVOKE_CONTESTED 254
 
 /*
- * Reads a program file and writes its location table, GURVOKE_TABLE_LENGTH(parts) bytes, to the
+ * Compiles a program file: writes its location table, GURVOKE_TABLE_LENGTH(parts) bytes, to the
  * start of `table`. Further bytes of `table` stay as they are. Answers 0 or a refusal: 1 to 7, each
  * over all parts, then 8.
  */
 uint32_t gurvoke_compile(const uint8_t *file, size_t file_len, uint8_t *table, size_t table_len);
 
 /*
- * Writes the program file that a location table holds, GURVOKE_FILE_LENGTH(parts) bytes, to the
+ * Decompiles a location table: writes its program file, GURVOKE_FILE_LENGTH(parts) bytes, to the
  * start of `file`. Further bytes of `file` stay as they are. Answers 0 or a refusal: 9, then 8.
  *
  * Here and in the calls below the table's length counts: pass GURVOKE_TABLE_LENGTH(parts), not the

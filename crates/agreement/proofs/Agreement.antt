@@ -16,24 +16,24 @@ use Rattle.base.proofs.Stores.{bytes-sets}
 use Rattle.meaning.specs.declared.Form.the-variants.{File}
 use Rattle.meaning.specs.Sizes.{maxValue, noPart, timeLimit}
 use Rattle.meaning.specs.Tree.{Part, size}
-use Rattle.meaning.specs.Program.{variables, clocks, parts, allowedEntry, Within}
+use Rattle.meaning.specs.Program.{variables, clocks, parts, entryAllowed, Within}
 use Rattle.meaning.specs.Table.{tableOf, compiled, isTable}
 use Rattle.meaning.specs.Conditions.{Situation}
 use Rattle.meaning.specs.Record.{waiting, offered, finished, recordBytes, recordLength, rootAllowed, partsAllowed, recordAllowed, clockAllowed}
-use Rattle.meaning.specs.Cycle.{fresh, beginRefusal, begunInto, leavesFrom, goalBytes, rootEnded, worksFrom, estimateAllowed, offerRefusal, checkedMarks, offeredRecord, offeredGoals, offeredInto, goalsInto, settledMarks, settleRefusal, settledRecord, settledInto, clockFlags, clockStarts}
+use Rattle.meaning.specs.Cycle.{initialMarks, beginRefusal, begunInto, leavesFrom, goalBytes, rootEnded, worksFrom, estimateAllowed, offerRefusal, checkedMarks, offeredRecord, offeredGoals, offeredInto, goalsInto, settledMarks, settleRefusal, settledRecord, settledInto, clockFlags, clockStarts}
 use Rattle.meaning.specs.Answers.{bufferTooShort, wrongPhase, timeBeforeLast, estimateNotAllowed, runFinished}
 use Rattle.meaning.proofs.Files.{accepted-file}
 use Rattle.meaning.proofs.Tables.{table-holds, table-accepted, tree-table, compiled-is}
 use Rattle.meaning.proofs.Entries.{length-goals}
-use Rattle.meaning.proofs.Records.{Fits, judged, phase-read, time-read, estimate-read, started-read, starts-read, begin-tests, begun-fits, begun-bytes, clocks-begun, estimate-fits, checked-marks, settled-marks, offered-bytes, offered-fits, settled-bytes, settled-fits, record-allowed, flags-small, clocks-settled, clock-later}
+use Rattle.meaning.proofs.Records.{Fits, judged, phase-read, time-read, estimate-read, started-read, starts-read, begin-tests, begun-fits, begun-bytes, clocks-begun, estimate-fits, checked-marks, settled-record-marks, offered-bytes, offered-fits, settled-bytes, settled-fits, record-allowed, flags-small, clocks-settled, clock-later}
 use Rattle.meaning.proofs.Refusals.{begin-refused}
 use Rattle.meaning.proofs.Lies.{Lies, root-lies}
 use Rattle.agreement.specs.Unfolding.{Rest, afresh, check, working, settle}
-use Rattle.agreement.specs.Runs.{Call, offer, settling, Reply, refused, goals, running, done, tableReply, tableNext, State, begin, Fed, fed, offering, settled, refusalOf, workingOf, phaseFor, treeNext, treeReply, acceptedReply, settledState, NameAlike, possible, Alike, counted, tableFinishing, treeFinishing, Timed, Demand3}
+use Rattle.agreement.specs.Runs.{Call, offer, settling, Reply, refused, goals, running, done, tableReply, tableNext, State, begin, Fed, fed, offering, settled, refusalOf, workingOf, phaseFor, treeNext, treeReply, acceptedReply, settledState, NameAlike, possible, Alike, settlingCount, tableFinishing, treeFinishing, Timed, Demand3}
 use Rattle.agreement.proofs.Contested.{names-contested}
 use Rattle.agreement.proofs.AtWork.{all-working, small-values}
 use Rattle.agreement.proofs.Shapes.{length-marks}
-use Rattle.agreement.proofs.Passes.{leaves-blank, leaves-whole, check-whole, fresh-lies}
+use Rattle.agreement.proofs.Passes.{leaves-blank, leaves-whole, check-whole, initial-lies}
 use Rattle.agreement.proofs.Settles.{marksLeft, settle-root, root-ended}
 use Rattle.agreement.proofs.Works.{Holding, afresh-holding, never-stalls}
 use Rattle.agreement.proofs.Allowed.{settle-holds, root-allowed, ended-allowed, blank-flags, marks-flags}
@@ -81,8 +81,8 @@ module _ (v k : ℕ) (p : Part) (w : Within v k p) where
   abbrev stateOf : ℕ → ℕ → List ℕ → List ℕ → List ℕ → Option (Rest p) → State p
   stateOf phase time est started starts rest = record { phase = phase; time = time; estimate = est; started = started; starts = starts; rest = rest }
 
-  abbrev heldIn : State p → List ℕ → List ℕ
-  heldIn st more = held (st .phase) (st .time) (st .estimate) (st .started) (st .starts) (st .rest) more
+  abbrev recordIn : State p → List ℕ → List ℕ
+  recordIn st more = held (st .phase) (st .time) (st .estimate) (st .started) (st .starts) (st .rest) more
 
   abbrev GoodState : State p → Type 0
   GoodState st = Good (st .phase) (st .time) (st .estimate) (st .started) (st .starts) (st .rest)
@@ -125,7 +125,7 @@ module _ (v k : ℕ) (p : Part) (w : Within v k p) where
     -- a settling never stalls: refusal 15 never comes
     works : (r : Rest p) → Good phase time est started starts (some r) → (new : List ℕ)
         → (rootEnded (settledMarks t (held phase time est started starts (some r) more) new) || worksFrom t 0 (settledMarks t (held phase time est started starts (some r) more) new)) ≡ true
-    works r g new = rw (settled-marks (g .fits) phase more new) (never-stalls t (judged new started starts time) p lies r)
+    works r g new = rw (settled-record-marks (g .fits) phase more new) (never-stalls t (judged new started starts time) p lies r)
 
     -- both refuse the same settlings
     settle-refusal : (rest : Option (Rest p)) → Good phase time est started starts rest → (new : List ℕ)
@@ -145,8 +145,8 @@ module _ (v k : ℕ) (p : Part) (w : Within v k p) where
   phase-after none = rw (root-ended p none)
   phase-after (some r) = rw (root-ended p (some r))
 
-  phase-next : (s : Situation) (r : Rest p) → Phase (phaseFor p (settle s p r)) (settle s p r)
-  phase-next s r = go (settle s p r) (λ r' e. settle-holds s p r r' e)
+  phase-next : (sit : Situation) (r : Rest p) → Phase (phaseFor p (settle sit p r)) (settle sit p r)
+  phase-next sit r = go (settle sit p r) (λ r' e. settle-holds sit p r r' e)
     where
       go : (o : Option (Rest p)) → ((r' : Rest p) → o ≡ some r' → Holding p r') → Phase (phaseFor p o) o
       go none h = refl
@@ -187,7 +187,7 @@ module _ (v k : ℕ) (p : Part) (w : Within v k p) where
   record Stepped (r : List ℕ) (st : State p) (more : List ℕ) (c : Call) : Type 0 where
     replied : tableReply t r c ≡ treeReply p v k st (fed c)
     named : NameAlike t r p st c
-    holding : tableNext t r c ≡ heldIn (treeNext p v k st (fed c)) more
+    holding : tableNext t r c ≡ recordIn (treeNext p v k st (fed c)) more
     good : GoodState (treeNext p v k st (fed c))
 
   module _ (phase time : ℕ) (est started starts : List ℕ) (r : Rest p) (g : Good phase time est started starts (some r)) (more : List ℕ) where
@@ -256,20 +256,20 @@ module _ (v k : ℕ) (p : Part) (w : Within v k p) where
 
     -- the goal bytes that an offer leaves in the buffer
     offered-goals : (now : ℕ) → now < timeLimit → time ≤ now → (buffer : List ℕ) → v ≤ length buffer
-        → bytesAt (sets buffer 0 (offeredGoals t (heldIn here more) now)) 0 (variables t) ≡ goalBytes v (working p (check (judged est started starts now) p r))
+        → bytesAt (sets buffer 0 (offeredGoals t (recordIn here more) now)) 0 (variables t) ≡ goalBytes v (working p (check (judged est started starts now) p r))
     offered-goals now f later buffer room =
         rw (offered-leaves phase time est started starts r g more now f later, variables-are)
         (bytes-sets (goalBytes v (working p (check (judged est started starts now) p r))) buffer 0 v (length-goals v (working p (check (judged est started starts now) p r))) (omega arith))
 
-    offer-accepted : (now : ℕ) → now < timeLimit → (buffer : List ℕ) → refusalOf p v here (offering now (length buffer)) ≡ 0 → Stepped (heldIn here more) here more (offer now buffer)
+    offer-accepted : (now : ℕ) → now < timeLimit → (buffer : List ℕ) → refusalOf p v here (offering now (length buffer)) ≡ 0 → Stepped (recordIn here more) here more (offer now buffer)
     unfolding treeReply treeNext offeredInto goalsInto
     offer-accepted now f buffer z =
-        let e : offerRefusal t (heldIn here more) now (length buffer) ≡ 0 = offer-refusal phase time est started starts more (some r) g now (length buffer) ∙ z in
+        let e : offerRefusal t (recordIn here more) now (length buffer) ≡ 0 = offer-refusal phase time est started starts more (some r) g now (length buffer) ∙ z in
         let waits = offer-waits phase time now (length buffer) est started starts (some r) (g .phased) z in
         let given = offered-goals now f (waits .later) buffer (waits .room-enough) in
         record {
           replied = rw (e, z) (ap goals given);
-          named = λ a name n. rw variables-are (names-contested v (working p (check (judged est started starts now) p r)) (small-values v k (working p (check (judged est started starts now) p r)) (all-working (allowedEntry v k) p (check (judged est started starts now) p r) (w .entries-allowed))) name (rw (e, given) at n));
+          named = λ a name n. rw variables-are (names-contested v (working p (check (judged est started starts now) p r)) (small-values v k (working p (check (judged est started starts now) p r)) (all-working (entryAllowed v k) p (check (judged est started starts now) p r) (w .entries-allowed))) name (rw (e, given) at n));
           holding = rw (e, z) (offered-held phase time est started starts r g more now f (waits .later));
           good = rw z (offered-good phase time est started starts r g more now f (waits .later));
         }
@@ -325,7 +325,7 @@ module _ (v k : ℕ) (p : Part) (w : Within v k p) where
     step-by none c g f true z = absurd (false≢true (rw (ended-refuses phase time est started starts (g .phased) (fed c)) at z))
     step-by (some r) c g f true z = accepted-step r c g f (eqb-true (refusalOf p v (stateOf phase time est started starts (some r)) (fed c)) 0 z)
 
-  step : (st : State p) (more : List ℕ) (c : Call) → GoodState st → Timely c → Stepped (heldIn st more) st more c
+  step : (st : State p) (more : List ℕ) (c : Call) → GoodState st → Timely c → Stepped (recordIn st more) st more c
   step st more c g f = step-by (st .phase) (st .time) (st .estimate) (st .started) (st .starts) more (st .rest) c g f (eqb (refusalOf p v st (fed c)) 0) refl
 
   -- The whole list of calls
@@ -337,14 +337,14 @@ module _ (v k : ℕ) (p : Part) (w : Within v k p) where
   others-timed (offer now buffer) cs h = h .1
   others-timed (settling new) cs h = h
 
-  finishing-alike : (cs : List Call) (st : State p) (more : List ℕ) (n : ℕ) → GoodState st → Timed cs → tableFinishing t (heldIn st more) n cs ≡ treeFinishing p v k st n cs
+  finishing-alike : (cs : List Call) (st : State p) (more : List ℕ) (n : ℕ) → GoodState st → Timed cs → tableFinishing t (recordIn st more) n cs ≡ treeFinishing p v k st n cs
   unfolding tableFinishing treeFinishing
   finishing-alike [] st more n g h = rw (phase-read (g .fits) (st .phase) more)
   finishing-alike (c ∷ cs) st more n g h =
       let s = step st more c g (first-timed c cs h) in
       rw (phase-read (g .fits) (st .phase) more, s .replied, s .holding)
       (ap (λ (o : Option ℕ). cond (eqb (st .phase) finished) (some n) o)
-      (finishing-alike cs (treeNext p v k st (fed c)) more (n + counted (treeReply p v k st (fed c))) (s .good) (others-timed c cs h)))
+      (finishing-alike cs (treeNext p v k st (fed c)) more (n + settlingCount (treeReply p v k st (fed c))) (s .good) (others-timed c cs h)))
 
   -- what a refusal's number can be
   refusal-possible : (st : State p) (c : Fed) → possible (refused (refusalOf p v st c)) ≡ true
@@ -364,7 +364,7 @@ module _ (v k : ℕ) (p : Part) (w : Within v k p) where
       ∙ rw (given-possible st c, refusal-possible st c) (cond-same (eqb (refusalOf p v st c) 0) true)
 
   -- from a state that a run comes to, the two runs are alike over every list of calls
-  alike : (cs : List Call) (st : State p) (more : List ℕ) → GoodState st → Timed cs → Alike t (heldIn st more) p v k st cs
+  alike : (cs : List Call) (st : State p) (more : List ℕ) → GoodState st → Timed cs → Alike t (recordIn st more) p v k st cs
   alike [] st more g h =
       record {
         replies = refl;
@@ -379,10 +379,10 @@ module _ (v k : ℕ) (p : Part) (w : Within v k p) where
       }
   alike (c ∷ cs) st more g h = joined (step st more c g (first-timed c cs h)) (λ e. alike cs (treeNext p v k st (fed c)) more e (others-timed c cs h))
     where
-      joined : Stepped (heldIn st more) st more c → (GoodState (treeNext p v k st (fed c)) → Alike t (heldIn (treeNext p v k st (fed c)) more) p v k (treeNext p v k st (fed c)) cs)
-          → Alike t (heldIn st more) p v k st (c ∷ cs)
+      joined : Stepped (recordIn st more) st more c → (GoodState (treeNext p v k st (fed c)) → Alike t (recordIn (treeNext p v k st (fed c)) more) p v k (treeNext p v k st (fed c)) cs)
+          → Alike t (recordIn st more) p v k st (c ∷ cs)
       joined s later =
-          let rest : Alike t (tableNext t (heldIn st more) c) p v k (treeNext p v k st (fed c)) cs = rw (s .holding) (later (s .good)) in
+          let rest : Alike t (tableNext t (recordIn st more) c) p v k (treeNext p v k st (fed c)) cs = rw (s .holding) (later (s .good)) in
           record {
             replies = ap₂ (λ (x : Reply) (xs : List Reply). x ∷ xs) (s .replied) (rest .replies);
             names = (s .named, rest .names);
@@ -396,22 +396,22 @@ module _ (v k : ℕ) (p : Part) (w : Within v k p) where
           }
 
   -- the fresh marks are as many as the parts
-  length-begun : length (fresh t 0) ≡ parts t
-  length-begun = ap length (fresh-lies t p lies) ∙ length-marks p (afresh p) ∙ sym (table-holds v k p w .parts-are)
+  length-begun : length (initialMarks t 0) ≡ parts t
+  length-begun = ap length (initial-lies t p lies) ∙ length-marks p (afresh p) ∙ sym (table-holds v k p w .parts-are)
 
   -- the state at the beginning is one that a run comes to, and the record that a beginning writes holds it
   begun-good : (est : List ℕ) (room : ℕ) → beginRefusal t est room ≡ 0 → GoodState (begin p k est)
   begun-good est room h =
       record {
-        fits = rw (fresh-lies t p lies, clocks-are) at (begun-fits t est room h length-begun);
+        fits = rw (initial-lies t p lies, clocks-are) at (begun-fits t est room h length-begun);
         flags = all-replicate (λ b. leb b 1) k 0 refl;
         small = estimate-fits t est (begin-tests t est room h .1 .0) .1;
         ticking = rw clocks-are (clocks-begun k 0);
         phased = inl (refl, afresh-holding p);
       }
 
-  begun-held : (est r : List ℕ) → beginRefusal t est (length r) ≡ 0 → begunInto t est r ≡ heldIn (begin p k est) (drop recordLength r)
-  begun-held est r h = begun-bytes t est r h length-begun ∙ rw (fresh-lies t p lies, clocks-are)
+  begun-held : (est r : List ℕ) → beginRefusal t est (length r) ≡ 0 → begunInto t est r ≡ recordIn (begin p k est) (drop recordLength r)
+  begun-held est r h = begun-bytes t est r h length-begun ∙ rw (initial-lies t p lies, clocks-are)
 
   -- a beginning is refused by 13 or 8
   begin-refusal : (est : List ℕ) (room : ℕ) → beginRefusal t est room ≡ firstFailing ((estimateNotAllowed, estimateAllowed v est) ∷ (bufferTooShort, leb recordLength room) ∷ [])
@@ -426,7 +426,7 @@ demand-3 f est r cs a h =
     let e : compiled File f ≡ tableOf v k (x .0) = compiled-is File f (x .0) (x .1) in
     record {
       program = x .0;
-      read = x .1;
+      tree-is = x .1;
       beginning = rw e (begin-refusal v k (x .0) (x .2) est (length r));
       unbegun = begin-refused (compiled File f) est r;
       begun =

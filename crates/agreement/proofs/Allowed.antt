@@ -20,7 +20,7 @@ use Rattle.meaning.specs.Table.{insideOf, tableOf}
 use Rattle.meaning.specs.Conditions.{Situation}
 use Rattle.meaning.specs.Record.{waiting, offered, finished, isMark, markedChildren, childrenAllowed, partsAllowed, rootAllowed}
 use Rattle.meaning.proofs.Trees.{All, part-ind, size-law, all-of, sizes, inner, size-inner}
-use Rattle.meaning.proofs.Lies.{Lies, LieIn, own-row, own-kind, own-inside, inside, first-lies, others-lie, root-lies}
+use Rattle.meaning.proofs.Lies.{Lies, LieIn, own-row, own-kind, own-inside, children-lie, first-lies, others-lie, root-lies}
 use Rattle.agreement.specs.Unfolding.{Rest, Current, Running, this, that, both, broken, holding, undecided, first, second, settle}
 use Rattle.agreement.proofs.Marks.{blank, marksOf, marksCurrent, marksRunning}
 use Rattle.agreement.proofs.Shapes.{marks-front, marks-ind, blank-both, any-blank}
@@ -98,7 +98,7 @@ module _ (t : List ℕ) (phase : ℕ) where
 
   blank-any : (p : Part) → Blank p
   unfolding Blank
-  blank-any = part-ind Blank (λ p h n q x l. rw (ap blank (size-inner p)) (allows-part l 0 (rw (← inner-sum p) at (blank-each (children p) h (inside l))) (rw (any-blank (inner p)))))
+  blank-any = part-ind Blank (λ p h n q x l. rw (ap blank (size-inner p)) (allows-part l 0 (rw (← inner-sum p) at (blank-each (children p) h (children-lie l))) (rw (any-blank (inner p)))))
 
   pub blank-lies : {p : Part} {n q x : ℕ} → Lies t p n q x → Allows t phase q n (size p) (blank (size p)) 0
   unfolding Blank
@@ -115,16 +115,16 @@ module _ (t : List ℕ) (phase : ℕ) where
     allowed-lies (goal o) l r f = allows-part l 1 allows-none refl
     allowed-lies (start o) l r f = allows-part l 1 allows-none refl
     allowed-lies (wait o) l r f = allows-part l 1 allows-none refl
-    allowed-lies (seq ps) l r f = allows-part l 1 (allowed-current ps (inside l) r f) refl
+    allowed-lies (seq ps) l r f = allows-part l 1 (allowed-current ps (children-lie l) r f) refl
     allowed-lies (par ps) l r f =
-        let h = allowed-running ps (inside l) r f in
+        let h = allowed-running ps (children-lie l) r f in
         allows-part l 1 (h .1) (le-leb 1 (suc (h .0)) (omega arith))
-    allowed-lies (maintain o p) l broken f = allows-part l 1 (blank-lies (first-lies (inside l))) (fit-broken phase f)
-    allowed-lies (maintain o p) l (holding r) f = allows-part l 1 (allowed-lies p (first-lies (inside l)) r f) refl
-    allowed-lies (choice o p q) l undecided f = allows-part l 1 (allows-both (blank-lies (first-lies (inside l))) (blank-lies (first-lies (others-lie (inside l)))) refl) refl
-    allowed-lies (choice o p q) l (first r) f = allows-part l 1 (allows-both (allowed-lies p (first-lies (inside l)) r f) (blank-lies (first-lies (others-lie (inside l)))) refl) refl
-    allowed-lies (choice o p q) l (second r) f = allows-part l 1 (allows-both (blank-lies (first-lies (inside l))) (allowed-lies q (first-lies (others-lie (inside l))) r f) refl) refl
-    allowed-lies (repeat p) l r f = allows-part l 1 (allowed-lies p (first-lies (inside l)) r f) refl
+    allowed-lies (maintain o p) l broken f = allows-part l 1 (blank-lies (first-lies (children-lie l))) (fit-broken phase f)
+    allowed-lies (maintain o p) l (holding r) f = allows-part l 1 (allowed-lies p (first-lies (children-lie l)) r f) refl
+    allowed-lies (choice o p q) l undecided f = allows-part l 1 (allows-both (blank-lies (first-lies (children-lie l))) (blank-lies (first-lies (others-lie (children-lie l)))) refl) refl
+    allowed-lies (choice o p q) l (first r) f = allows-part l 1 (allows-both (allowed-lies p (first-lies (children-lie l)) r f) (blank-lies (first-lies (others-lie (children-lie l)))) refl) refl
+    allowed-lies (choice o p q) l (second r) f = allows-part l 1 (allows-both (blank-lies (first-lies (children-lie l))) (allowed-lies q (first-lies (others-lie (children-lie l))) r f) refl) refl
+    allowed-lies (repeat p) l r f = allows-part l 1 (allowed-lies p (first-lies (children-lie l)) r f) refl
 
     -- a SEQ has one marked child
     allowed-current : (ps : Parts) {k : Kind} {q n : ℕ} → LieIn t k q n (listOf ps) → (c : Current ps) → Fit phase (HoldingCurrent ps c) → Allows t phase q n (sizes ps) (marksCurrent ps c) 1
@@ -163,8 +163,8 @@ unfolding rootAllowed
 root-marked phase p r e = rw (e, marks-front p r)
 
 -- in what a settling leaves no MAINTAIN is broken
-pub settle-holds : (s : Situation) (p : Part) (r r' : Rest p) → settle s p r ≡ some r' → Holding p r'
-settle-holds s p r r' e = rw e at (settle-holding s p r)
+pub settle-holds : (sit : Situation) (p : Part) (r r' : Rest p) → settle sit p r ≡ some r' → Holding p r'
+settle-holds sit p r r' e = rw e at (settle-holding sit p r)
 
 module _ (v k : ℕ) (p : Part) (w : Within v k p) where
   root-parts : (phase : ℕ) (r : Rest p) → Fit phase (Holding p r) → partsAllowed (tableOf v k p) phase 0 (marksOf p r) ≡ true

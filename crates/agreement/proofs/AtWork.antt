@@ -12,7 +12,7 @@ use Rattle.meaning.specs.declared.Entry.{Entry}
 use Rattle.meaning.specs.Sizes.{maxValue}
 use Rattle.meaning.specs.Kinds.{GOAL, value}
 use Rattle.meaning.specs.Tree.{Part, Parts, goal, start, wait, seq, par, maintain, choice, repeat, one, more, children, listOf}
-use Rattle.meaning.specs.Program.{preorder, allowedEntry}
+use Rattle.meaning.specs.Program.{preorder, entryAllowed}
 use Rattle.meaning.specs.Cycle.{isKind, valuesFor}
 use Rattle.meaning.proofs.Trees.{entryOf, preorder-law}
 use Rattle.meaning.proofs.Entries.{goal-fits}
@@ -64,14 +64,14 @@ module _ (f : Entry → Bool) where
         append (working p r) (workingRunning ps c) (all-working p r (head (preorder p) (flat preorder (listOf ps)) h)) (all-running ps c (tail (preorder p) (flat preorder (listOf ps)) h))
 
 -- no GOAL among allowed entries has a value above 250
-pub small-values : (v k : ℕ) (es : List Entry) → all (allowedEntry v k) es ≡ true → (u : ℕ) → all (λ x. leb x maxValue) (valuesFor u es) ≡ true
+pub small-values : (v k : ℕ) (es : List Entry) → all (entryAllowed v k) es ≡ true → (u : ℕ) → all (λ x. leb x maxValue) (valuesFor u es) ≡ true
 unfolding valuesFor
 small-values v k [] h u = refl
 small-values v k (e ∷ es) h u =
-    step (isKind GOAL e) (eqb (e .operand .b1) u) refl (small-values v k es (and-right (allowedEntry v k e) (all (allowedEntry v k) es) h) u)
+    step (isKind GOAL e) (eqb (e .operand .b1) u) refl (small-values v k es (and-right (entryAllowed v k e) (all (entryAllowed v k) es) h) u)
   where
     step : (g b : Bool) → isKind GOAL e ≡ g → all (λ x. leb x maxValue) (valuesFor u es) ≡ true
         → all (λ x. leb x maxValue) (cond (g && b) (value (e .operand) ∷ []) [] ++ valuesFor u es) ≡ true
     step false b g rest = rest
     step true false g rest = rest
-    step true true g rest = rw (le-leb (value (e .operand)) maxValue (goal-fits v k e (and-left (allowedEntry v k e) (all (allowedEntry v k) es) h) g .1)) rest
+    step true true g rest = rw (le-leb (value (e .operand)) maxValue (goal-fits v k e (and-left (entryAllowed v k e) (all (entryAllowed v k) es) h) g .1)) rest

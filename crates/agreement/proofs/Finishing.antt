@@ -1,4 +1,4 @@
--- The finishing cycle, as the replies of a run tell it. Both runs count with the same definition (`counted`), so that `demand-3` alone would not notice a wrong one.
+-- The finishing cycle, as the replies of a run tell it. Both runs count with the same definition (`settlingCount`), so that `demand-3` alone would not notice a wrong one.
 use Prim.Native.Nat.{ℕ, _+_}
 use native.Mathlib.Nat.{add-zero}
 use mathlib.Core.Path.{_≡_, refl}
@@ -8,7 +8,7 @@ use mathlib.Core.List.{List, [], _∷_}
 use lib.Dec.{eqb}
 use Rattle.meaning.specs.Tree.{Part}
 use Rattle.meaning.specs.Record.{finished}
-use Rattle.agreement.specs.Runs.{Call, offer, settling, Reply, refused, goals, running, done, State, fed, refusalOf, offeredState, settledState, treeNext, treeReply, treeReplies, counted, treeFinishing}
+use Rattle.agreement.specs.Runs.{Call, offer, settling, Reply, refused, goals, running, done, State, fed, refusalOf, offeredState, settledState, treeNext, treeReply, treeReplies, settlingCount, treeFinishing}
 
 -- "the number of settlings not refused", each of which tells "running" or "finished", up to the first that tells "finished", after n of them
 abbrev pub finishingIn : ℕ → List Reply → Option ℕ
@@ -31,13 +31,13 @@ module _ (p : Part) (v k : ℕ) where
 
   -- a settling that is not refused is counted, whether the run goes on or ends with it
   settling-counted : (cs : List Call) (st : State p) (n : ℕ) (b : Bool) → eqb (st .phase) finished ≡ b → (eqb (st .phase) finished ≡ false → Told cs st)
-      → treeFinishing p v k st (n + counted (cond b done running)) cs ≡ finishingIn n (cond b done running ∷ treeReplies p v k st cs)
+      → treeFinishing p v k st (n + settlingCount (cond b done running)) cs ≡ finishingIn n (cond b done running ∷ treeReplies p v k st cs)
   settling-counted cs st n true h later = ended cs st (n + 1) h
   settling-counted cs st n false h later = later h (n + 1)
 
   -- one call of a run that goes on, whether it is refused or not
   call-counted : (c : Call) (cs : List Call) (st : State p) → eqb (st .phase) finished ≡ false → ((next : State p) → eqb (next .phase) finished ≡ false → Told cs next) → (b : Bool) → eqb (refusalOf p v st (fed c)) 0 ≡ b
-      → (n : ℕ) → treeFinishing p v k (treeNext p v k st (fed c)) (n + counted (treeReply p v k st (fed c))) cs ≡ finishingIn n (treeReplies p v k st (c ∷ cs))
+      → (n : ℕ) → treeFinishing p v k (treeNext p v k st (fed c)) (n + settlingCount (treeReply p v k st (fed c))) cs ≡ finishingIn n (treeReplies p v k st (c ∷ cs))
   unfolding treeNext treeReply
   call-counted c cs st h later false e n = rw (e, add-zero) (later st h n)
   call-counted (offer time buffer) cs st h later true e n = rw (e, add-zero) (later (offeredState p st time) refl n)

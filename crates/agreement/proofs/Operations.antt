@@ -16,7 +16,7 @@ use Rattle.meaning.specs.declared.Form.the-variants.{File, Table}
 use Rattle.meaning.specs.Sizes.{lengthOf}
 use Rattle.meaning.specs.Tree.{Part}
 use Rattle.meaning.specs.Program.{parts, variables, clocks, programRefusal}
-use Rattle.meaning.specs.Table.{tableOf, compiled, readRefusal, readInto}
+use Rattle.meaning.specs.Table.{tableOf, compiled, compileRefusal, compiledInto}
 use Rattle.meaning.specs.Record.{phaseOf, lastTime, estimateIn, startedIn, startsIn, waiting, finished}
 use Rattle.meaning.specs.Cycle.{contested, Names, rootEnded, settledMarks, beginRefusal, begunInto, offerRefusal, offeredGoals, offeredInto, goalsInto, settleRefusal, settledInto}
 use Rattle.meaning.specs.Answers.{answered, bufferTooShort, noVariable}
@@ -24,8 +24,8 @@ use Rattle.meaning.specs.Operations.{Begun}
 use Rattle.meaning.proofs.Files.{accepted}
 use Rattle.meaning.proofs.Tables.{table-holds, table-accepted, compiled-is}
 use Rattle.meaning.proofs.Refusals.{offer-list, settle-list, settled-phase, goal-bytes-into}
-use Rattle.agreement.specs.Runs.{Call, offer, settling, Reply, refused, goals, running, done, reply, settledReply, tableReply, tableNext, tableReplies, tableAfter, tableFinishing, State, begin, fed, treeNext, counted, possible, NameAlike, NamesAlike, Alike, Timed}
-use Rattle.agreement.specs.Calls.{tableIn, Made, offerMade, settlingMade, callOf, recordFrom, Promised, AllPromised, told, NameTold, NamesTold, recordAfter, finishingCycle, CallsAlike, OperationsAlike, OperationsAgree, PromisesKept}
+use Rattle.agreement.specs.Runs.{Call, offer, settling, Reply, refused, goals, running, done, reply, settledReply, tableReply, tableNext, tableReplies, tableAfter, tableFinishing, State, begin, fed, treeNext, settlingCount, possible, NameAlike, NamesAlike, Alike, Timed}
+use Rattle.agreement.specs.Calls.{tableIn, Made, offerMade, settlingMade, callOf, recordFrom, Promised, AllPromised, replyOf, NameInAnswer, NamesInAnswers, recordAfter, finishingCycle, CallsAlike, OperationsAlike, OperationsAgree, PromisesKept}
 use Rattle.agreement.proofs.Agreement.{failing-passes, demand-3}
 
 -- the numbers of refusals are below those of the other answers
@@ -38,17 +38,17 @@ unfolding settleRefusal
 settle-below t r est = not-true (leb answered (settleRefusal t r est)) (failing-passes (λ n. not (leb answered n)) (settle-list t r est) refl refl)
 
 -- What an offer's answer tells, where n is its refusal by the definitions, and what a settling's does, where b says that the root has ended
-offer-tells : (n answer : ℕ) (gs : List ℕ) → ((n ≡ 0 → ⊥) → answer ≡ n) → (n ≡ 0 → answered ≤ answer) → leb answered n ≡ false
+offer-reply : (n answer : ℕ) (gs : List ℕ) → ((n ≡ 0 → ⊥) → answer ≡ n) → (n ≡ 0 → answered ≤ answer) → leb answered n ≡ false
     → cond (leb answered answer) (goals gs) (refused answer) ≡ reply n (goals gs)
-offer-tells n answer gs refuses gives l = go (eqb n 0) refl
+offer-reply n answer gs refuses gives l = go (eqb n 0) refl
   where
     go : (b : Bool) → eqb n 0 ≡ b → cond (leb answered answer) (goals gs) (refused answer) ≡ cond b (goals gs) (refused n)
     go true e = rw (le-leb answered answer (gives (eqb-true n 0 e)))
     go false e = rw (refuses (eqb-false n 0 e), l)
 
-settle-tells : (n phase : ℕ) (b : Bool) → (n ≡ 0 → phase ≡ cond b finished waiting) → leb answered n ≡ false → (answer : ℕ) → answer ≡ cond (eqb n 0) (answered + flag b) n
+settle-reply : (n phase : ℕ) (b : Bool) → (n ≡ 0 → phase ≡ cond b finished waiting) → leb answered n ≡ false → (answer : ℕ) → answer ≡ cond (eqb n 0) (answered + flag b) n
     → cond (leb answered answer) (cond (eqb answer (answered + 1)) done running) (refused answer) ≡ reply n (settledReply phase)
-settle-tells n phase b ends l answer a = rw a (go (eqb n 0) refl)
+settle-reply n phase b ends l answer a = rw a (go (eqb n 0) refl)
   where
     on : (c : Bool) → cond (leb answered (answered + flag c)) (cond (eqb (answered + flag c) (answered + 1)) done running) (refused (answered + flag c)) ≡ settledReply (cond c finished waiting)
     on true = refl
@@ -64,12 +64,12 @@ phase-settled : (t r est : List ℕ) → settleRefusal t r est ≡ 0 → phaseOf
 unfolding settledInto
 phase-settled t r est h = rw h (settled-phase t r est h)
 
-tells : (t r : List ℕ) (m : Made) → Promised t r m → told (variables t) m ≡ tableReply t r (callOf m)
-tells t r (offerMade time buffer answer r' buffer') h =
+made-reply : (t r : List ℕ) (m : Made) → Promised t r m → replyOf (variables t) m ≡ tableReply t r (callOf m)
+made-reply t r (offerMade time buffer answer r' buffer') h =
     rw (h .goals-are)
-    (offer-tells (offerRefusal t r time (length buffer)) answer (bytesAt (goalsInto t r time buffer) 0 (variables t)) (h .refusal-is) (h .answer-follows) (offer-below t r time (length buffer)))
-tells t r (settlingMade est answer r') h =
-    settle-tells (settleRefusal t r est) (phaseOf (settledInto t r est)) (rootEnded (settledMarks t r est)) (phase-settled t r est) (settle-below t r est) answer (h .answer-is)
+    (offer-reply (offerRefusal t r time (length buffer)) answer (bytesAt (goalsInto t r time buffer) 0 (variables t)) (h .refusal-is) (h .answer-follows) (offer-below t r time (length buffer)))
+made-reply t r (settlingMade est answer r') h =
+    settle-reply (settleRefusal t r est) (phaseOf (settledInto t r est)) (rootEnded (settledMarks t r est)) (phase-settled t r est) (settle-below t r est) answer (h .answer-is)
 
 leaves : (t r : List ℕ) (m : Made) → Promised t r m → recordFrom m ≡ tableNext t r (callOf m)
 leaves t r (offerMade time buffer answer r' buffer') h = h .record-is
@@ -84,22 +84,22 @@ not-refused n answer refuses l a = go (eqb n 0) refl
     go false e = absurd (omega (arith, refuses (eqb-false n 0 e), leb-false answered n l))
 
 -- the name in the answer is one that the table's offer may give
-names-told : (t r : List ℕ) (p : Part) (st : State p) (m : Made) → Promised t r m → NameAlike t r p st (callOf m) → NameTold p (variables t) st m
-names-told t r p st (offerMade time buffer answer r' buffer') h alike =
+names-answered : (t r : List ℕ) (p : Part) (st : State p) (m : Made) → Promised t r m → NameAlike t r p st (callOf m) → NameInAnswer p (variables t) st m
+names-answered t r p st (offerMade time buffer answer r' buffer') h alike =
     λ a.
     let z = not-refused (offerRefusal t r time (length buffer)) answer (h .refusal-is) (offer-below t r time (length buffer)) a in
     alike z (answer - answered) (rw (goal-bytes-into t r time buffer z .0) (h .names z))
-names-told t r p st (settlingMade est answer r') h alike = tt
+names-answered t r p st (settlingMade est answer r') h alike = tt
 
 -- A list of calls on one table, which has v variables
 module _ (t : List ℕ) (v : ℕ) (same : variables t ≡ v) where
-  tells-same : (r : List ℕ) (m : Made) → Promised t r m → told v m ≡ tableReply t r (callOf m)
-  tells-same r m h = ap (λ (n : ℕ). told n m) (sym same) ∙ tells t r m h
+  made-reply-same : (r : List ℕ) (m : Made) → Promised t r m → replyOf v m ≡ tableReply t r (callOf m)
+  made-reply-same r m h = ap (λ (n : ℕ). replyOf n m) (sym same) ∙ made-reply t r m h
 
-  replies-are : (ms : List Made) (r : List ℕ) → AllPromised t r ms → map (told v) ms ≡ tableReplies t r (map callOf ms)
+  replies-are : (ms : List Made) (r : List ℕ) → AllPromised t r ms → map (replyOf v) ms ≡ tableReplies t r (map callOf ms)
   replies-are [] r h = refl
   replies-are (m ∷ ms) r h =
-      ap₂ (λ (x : Reply) (xs : List Reply). x ∷ xs) (tells-same r m (h .0)) (replies-are ms (recordFrom m) (h .1) ∙ ap (λ (q : List ℕ). tableReplies t q (map callOf ms)) (leaves t r m (h .0)))
+      ap₂ (λ (x : Reply) (xs : List Reply). x ∷ xs) (made-reply-same r m (h .0)) (replies-are ms (recordFrom m) (h .1) ∙ ap (λ (q : List ℕ). tableReplies t q (map callOf ms)) (leaves t r m (h .0)))
 
   record-is : (ms : List Made) (r : List ℕ) → AllPromised t r ms → recordAfter r ms ≡ tableAfter t r (map callOf ms)
   record-is [] r h = refl
@@ -110,13 +110,13 @@ module _ (t : List ℕ) (v : ℕ) (same : variables t ≡ v) where
   finishing-is [] r n h = refl
   finishing-is (m ∷ ms) r n h =
       ap (λ (o : Option ℕ). cond (eqb (phaseOf r) finished) (some n) o)
-      (finishing-is ms (recordFrom m) (n + counted (told v m)) (h .1)
-      ∙ ap₂ (λ (q : List ℕ) (x : Reply). tableFinishing t q (n + counted x) (map callOf ms)) (leaves t r m (h .0)) (tells-same r m (h .0)))
+      (finishing-is ms (recordFrom m) (n + settlingCount (replyOf v m)) (h .1)
+      ∙ ap₂ (λ (q : List ℕ) (x : Reply). tableFinishing t q (n + settlingCount x) (map callOf ms)) (leaves t r m (h .0)) (made-reply-same r m (h .0)))
 
-  names-are : (p : Part) (k : ℕ) (ms : List Made) (r : List ℕ) (st : State p) → AllPromised t r ms → NamesAlike t r p v k st (map callOf ms) → NamesTold p v k st ms
+  names-are : (p : Part) (k : ℕ) (ms : List Made) (r : List ℕ) (st : State p) → AllPromised t r ms → NamesAlike t r p v k st (map callOf ms) → NamesInAnswers p v k st ms
   names-are p k [] r st h alike = tt
   names-are p k (m ∷ ms) r st h alike = (
-    subst (λ (n : ℕ). NameTold p n st m) same (names-told t r p st m (h .0) (alike .0)),
+    subst (λ (n : ℕ). NameInAnswer p n st m) same (names-answered t r p st m (h .0) (alike .0)),
     names-are p k ms (recordFrom m) (treeNext p v k st (fed (callOf m))) (h .1) (subst (λ (q : List ℕ). NamesAlike t q p v k (treeNext p v k st (fed (callOf m))) (map callOf ms)) (sym (leaves t r m (h .0))) (alike .1)),
   )
 
@@ -145,9 +145,9 @@ both-none m n = go (eqb n 0) refl
     go false e h = absurd (eqb-false n 0 e h)
 
 module _ (f : List ℕ) where
-  -- a file that reading does not refuse is a program's, and there is room for its table
-  pub read-accepted : (room : ℕ) → readRefusal f room ≡ 0 → (programRefusal File f ≡ 0) × (lengthOf Table (parts f) ≤ room)
-  unfolding readRefusal
+  -- a file that compiling does not refuse is a program's, and there is room for its table
+  pub read-accepted : (room : ℕ) → compileRefusal f room ≡ 0 → (programRefusal File f ≡ 0) × (lengthOf Table (parts f) ≤ room)
+  unfolding compileRefusal
   read-accepted room h =
       let x = both-none (firstFailing ((bufferTooShort, leb (lengthOf Table (parts f)) room) ∷ [])) (programRefusal File f) h in
       (x .0, leb-true (lengthOf Table (parts f)) room (none-fails ((bufferTooShort, leb (lengthOf Table (parts f)) room) ∷ []) refl (x .1) .0))
@@ -167,9 +167,9 @@ module _ (f : List ℕ) where
         let held = table-holds (variables f) (clocks f) tree (accepted File f a .2 .within) in
         rw compiled-tree (held .length-is ∙ ap (lengthOf Table) (held .parts-are ∙ sym (accepted File f a .2 .parts-are)))
 
-  -- the buffer that reading leaves begins with the file's table
-  read-table : (out : List ℕ) → readRefusal f (length out) ≡ 0 → tableIn f (readInto f out) ≡ compiled File f
-  unfolding readInto
+  -- the buffer that compiling leaves begins with the file's table
+  read-table : (out : List ℕ) → compileRefusal f (length out) ≡ 0 → tableIn f (compiledInto f out) ≡ compiled File f
+  unfolding compiledInto
   read-table out h =
       let x = read-accepted (length out) h in
       rw h (bytes-sets (compiled File f) out 0 (lengthOf Table (parts f)) (compiled-length (x .0)) (omega (arith, x .1)))
@@ -182,7 +182,7 @@ module _ (f : List ℕ) where
     program-alike cs h z =
         let d = demand-3 f est r cs a h in
         subst (λ (p : Part). Alike (compiled File f) (begunInto (compiled File f) est r) p (variables f) (clocks f) (begin p (clocks f) est) cs)
-        (Option·some-injective (d .program) (tree a) (sym (d .read) ∙ accepted File f a .1))
+        (Option·some-injective (d .program) (tree a) (sym (d .tree-is) ∙ accepted File f a .1))
         (d .begun z)
 
     begun-alike : (answer : ℕ) (r' : List ℕ) → Begun (compiled File f) est r answer r' → OperationsAlike f (compiled File f) est r answer r'
@@ -190,7 +190,7 @@ module _ (f : List ℕ) where
         let d = demand-3 f est r [] a tt in
         record {
           program = tree a;
-          read = accepted File f a .1;
+          tree-is = accepted File f a .1;
           beginning = b .answer-is ∙ d .beginning;
           unbegun = λ n. b .record-is ∙ d .unbegun (λ z. n (b .answer-is ∙ z));
           begun =
@@ -200,9 +200,9 @@ module _ (f : List ℕ) where
         }
 
 pub operations-agree : OperationsAgree
-operations-agree f out answer out' read z est r answer' r' b =
-    let h : readRefusal f (length out) ≡ 0 = sym (read .answer-is) ∙ z in
-    let e : tableIn f out' ≡ compiled File f = ap (tableIn f) (read .buffer-is) ∙ read-table f out h in
+operations-agree f out answer out' tree-is z est r answer' r' b =
+    let h : compileRefusal f (length out) ≡ 0 = sym (tree-is .answer-is) ∙ z in
+    let e : tableIn f out' ≡ compiled File f = ap (tableIn f) (tree-is .buffer-is) ∙ read-table f out h in
     subst (λ (t : List ℕ). Begun t est r answer' r' → OperationsAlike f t est r answer' r') (sym e) (begun-alike f (read-accepted f (length out) h .0) est r answer' r') b
 
 -- A name that an offer may give is there for all goal bytes: the lowest contested variable, or 255

@@ -29,14 +29,14 @@ marks-front (choice o p q) (second r) = refl
 marks-front (repeat p) r = refl
 
 -- what holds of no marks, of a mark before others, of blanks and of marks one after the other
-pub record Closed (P : ℕ → List ℕ → Type 0) : Type 0 where
+pub record MarksClosed (P : ℕ → List ℕ → Type 0) : Type 0 where
   pub empty : P 0 []
   pub marked : {a : ℕ} {xs : List ℕ} → P a xs → P (suc a) (1 ∷ xs)
   pub blanks : (a : ℕ) → P a (blank a)
   pub joined : {a b : ℕ} {xs ys : List ℕ} → P a xs → P b ys → P (a + b) (xs ++ ys)
 
 -- holds of the marks of what remains
-module _ (P : ℕ → List ℕ → Type 0) (h : Closed P) where
+module _ (P : ℕ → List ℕ → Type 0) (h : MarksClosed P) where
   whole : (p : Part) {xs : List ℕ} → P (inner p) xs → P (size p) (1 ∷ xs)
   whole p k = rw (size-inner p) (h .marked k)
 

@@ -18,8 +18,8 @@ use Rattle.meaning.specs.Conditions.{Situation, reached, satisfied}
 use Rattle.meaning.specs.Record.{isMark}
 use Rattle.meaning.specs.Cycle.{isKind, isLeaf, settledFrom, rootEnded, worksFrom}
 use Rattle.meaning.proofs.Trees.{entryOf, sizes, inner}
-use Rattle.meaning.proofs.Lies.{Lies, LieIn, own-row, own-inside, inside, first-lies, others-lie}
-use Rattle.agreement.specs.Unfolding.{Rest, Current, Running, this, that, both, broken, holding, undecided, first, second, afresh, afreshFirst, afreshAll, onward, join, settle, settleCurrent, settleRunning}
+use Rattle.meaning.proofs.Lies.{Lies, LieIn, own-row, own-inside, children-lie, first-lies, others-lie}
+use Rattle.agreement.specs.Unfolding.{Rest, Current, Running, this, that, both, broken, holding, undecided, first, second, afresh, afreshFirst, afreshAll, onward, restOfBoth, settle, settleCurrent, settleRunning}
 use Rattle.agreement.proofs.Marks.{blank, marksOf, marksCurrent, marksRunning}
 use Rattle.agreement.proofs.Shapes.{blank-both, any-blank}
 use Rattle.agreement.proofs.Settles.{marksLeft, settle-root, root-ended}
@@ -87,7 +87,7 @@ module _ {A B : Type 0} (P : A → Type 0) (Q : B → Type 0) (f : A → B) (h :
   remains-onward b e (some a) k = h a k
 
 -- what holds of a child and of the others of a PAR holds of those that are left
-remains-both : (p : Part) (ps : Parts) (o : Option (Rest p)) (u : Option (Running ps)) → Remains (Holding p) o → Remains (HoldingRunning ps) u → Remains (HoldingRunning (more p ps)) (join o u)
+remains-both : (p : Part) (ps : Parts) (o : Option (Rest p)) (u : Option (Running ps)) → Remains (Holding p) o → Remains (HoldingRunning ps) u → Remains (HoldingRunning (more p ps)) (restOfBoth o u)
 remains-both p ps none none h k = tt
 remains-both p ps none (some c) h k = k
 remains-both p ps (some r) none h k = h
@@ -103,35 +103,35 @@ decided-holding : (o : Operand) (p q : Part) (b : Bool) → Holding (choice o p 
 decided-holding o p q true = afresh-holding p
 decided-holding o p q false = afresh-holding q
 
-module _ (s : Situation) where
+module _ (sit : Situation) where
   mutual
     unfolding settle settleCurrent settleRunning
 
     -- after a settling nothing is broken, whatever was before
-    pub settle-holding : (p : Part) (r : Rest p) → Remains (Holding p) (settle s p r)
-    settle-holding (goal o) r = remains-leaf (reached s o)
+    pub settle-holding : (p : Part) (r : Rest p) → Remains (Holding p) (settle sit p r)
+    settle-holding (goal o) r = remains-leaf (reached sit o)
     settle-holding (start o) r = tt
-    settle-holding (wait o) r = remains-leaf (satisfied s o)
+    settle-holding (wait o) r = remains-leaf (satisfied sit o)
     settle-holding (seq ps) r = current-holding ps r
     settle-holding (par ps) r = running-holding ps r
     settle-holding (maintain o p) broken = tt
-    settle-holding (maintain o p) (holding r) = remains-map (Holding p) (Holding (maintain o p)) holding (λ a h. h) (settle s p r) (settle-holding p r)
-    settle-holding (choice o p q) undecided = decided-holding o p q (satisfied s o)
-    settle-holding (choice o p q) (first r) = remains-map (Holding p) (Holding (choice o p q)) first (λ a h. h) (settle s p r) (settle-holding p r)
-    settle-holding (choice o p q) (second r) = remains-map (Holding q) (Holding (choice o p q)) second (λ a h. h) (settle s q r) (settle-holding q r)
-    settle-holding (repeat p) r = remains-onward (Holding p) (Holding p) (λ a. a) (λ a h. h) (afresh p) (afresh-holding p) (settle s p r) (settle-holding p r)
+    settle-holding (maintain o p) (holding r) = remains-map (Holding p) (Holding (maintain o p)) holding (λ a h. h) (settle sit p r) (settle-holding p r)
+    settle-holding (choice o p q) undecided = decided-holding o p q (satisfied sit o)
+    settle-holding (choice o p q) (first r) = remains-map (Holding p) (Holding (choice o p q)) first (λ a h. h) (settle sit p r) (settle-holding p r)
+    settle-holding (choice o p q) (second r) = remains-map (Holding q) (Holding (choice o p q)) second (λ a h. h) (settle sit q r) (settle-holding q r)
+    settle-holding (repeat p) r = remains-onward (Holding p) (Holding p) (λ a. a) (λ a h. h) (afresh p) (afresh-holding p) (settle sit p r) (settle-holding p r)
 
-    current-holding : (ps : Parts) (c : Current ps) → Remains (HoldingCurrent ps) (settleCurrent s ps c)
+    current-holding : (ps : Parts) (c : Current ps) → Remains (HoldingCurrent ps) (settleCurrent sit ps c)
     current-holding (one p) r = settle-holding p r
     current-holding (more p ps) (inl r) =
-        remains-onward (Holding p) (HoldingCurrent (more p ps)) inl (λ a h. h) (inr (afreshFirst ps)) (afresh-first-holding ps) (settle s p r) (settle-holding p r)
-    current-holding (more p ps) (inr c) = remains-map (HoldingCurrent ps) (HoldingCurrent (more p ps)) inr (λ a h. h) (settleCurrent s ps c) (current-holding ps c)
+        remains-onward (Holding p) (HoldingCurrent (more p ps)) inl (λ a h. h) (inr (afreshFirst ps)) (afresh-first-holding ps) (settle sit p r) (settle-holding p r)
+    current-holding (more p ps) (inr c) = remains-map (HoldingCurrent ps) (HoldingCurrent (more p ps)) inr (λ a h. h) (settleCurrent sit ps c) (current-holding ps c)
 
-    running-holding : (ps : Parts) (c : Running ps) → Remains (HoldingRunning ps) (settleRunning s ps c)
+    running-holding : (ps : Parts) (c : Running ps) → Remains (HoldingRunning ps) (settleRunning sit ps c)
     running-holding (one p) r = settle-holding p r
-    running-holding (more p ps) (this r) = remains-map (Holding p) (HoldingRunning (more p ps)) this (λ a h. h) (settle s p r) (settle-holding p r)
-    running-holding (more p ps) (that c) = remains-map (HoldingRunning ps) (HoldingRunning (more p ps)) that (λ a h. h) (settleRunning s ps c) (running-holding ps c)
-    running-holding (more p ps) (both r c) = remains-both p ps (settle s p r) (settleRunning s ps c) (settle-holding p r) (running-holding ps c)
+    running-holding (more p ps) (this r) = remains-map (Holding p) (HoldingRunning (more p ps)) this (λ a h. h) (settle sit p r) (settle-holding p r)
+    running-holding (more p ps) (that c) = remains-map (HoldingRunning ps) (HoldingRunning (more p ps)) that (λ a h. h) (settleRunning sit ps c) (running-holding ps c)
+    running-holding (more p ps) (both r c) = remains-both p ps (settle sit p r) (settleRunning sit ps c) (settle-holding p r) (running-holding ps c)
 
 -- a leaf or a deciding CHOICE is marked in the marks xs from number n on, whatever follows
 pub record Works (t : List ℕ) (n : ℕ) (xs : List ℕ) : Type 0 where
@@ -173,14 +173,14 @@ module _ (t : List ℕ) where
     works-lies (goal o) l r h = works-leaf l refl
     works-lies (start o) l r h = works-leaf l refl
     works-lies (wait o) l r h = works-leaf l refl
-    works-lies (seq ps) l r h = works-inside l (works-current ps (inside l) r h)
-    works-lies (par ps) l r h = works-inside l (works-running ps (inside l) r h)
+    works-lies (seq ps) l r h = works-inside l (works-current ps (children-lie l) r h)
+    works-lies (par ps) l r h = works-inside l (works-running ps (children-lie l) r h)
     works-lies (maintain o p) l broken h = absurd h
-    works-lies (maintain o p) l (holding r) h = works-inside l (works-lies p (first-lies (inside l)) r h)
+    works-lies (maintain o p) l (holding r) h = works-inside l (works-lies p (first-lies (children-lie l)) r h)
     works-lies (choice o p q) l undecided h = works-deciding l (blank (size p) ++ blank (size q)) refl (blank-both (size p) (size q))
-    works-lies (choice o p q) l (first r) h = works-inside l (works-first (works-lies p (first-lies (inside l)) r h) (blank (size q)))
-    works-lies (choice o p q) l (second r) h = works-inside l (works-later (size p) (works-lies q (first-lies (others-lie (inside l))) r h))
-    works-lies (repeat p) l r h = works-inside l (works-lies p (first-lies (inside l)) r h)
+    works-lies (choice o p q) l (first r) h = works-inside l (works-first (works-lies p (first-lies (children-lie l)) r h) (blank (size q)))
+    works-lies (choice o p q) l (second r) h = works-inside l (works-later (size p) (works-lies q (first-lies (others-lie (children-lie l))) r h))
+    works-lies (repeat p) l r h = works-inside l (works-lies p (first-lies (children-lie l)) r h)
 
     works-current : (ps : Parts) {k : Kind} {q n : ℕ} → LieIn t k q n (listOf ps) → (c : Current ps) → HoldingCurrent ps c → Works t n (marksCurrent ps c)
     works-current (one p) l r h = works-lies p (first-lies l) r h
@@ -197,12 +197,12 @@ module _ (t : List ℕ) where
   pub works-whole : (p : Part) {n q x : ℕ} → Lies t p n q x → (r : Rest p) → Holding p r → worksFrom t n (marksOf p r) ≡ true
   works-whole p l r h = rw append-nil at (works-lies p l r h .works [])
 
-module _ (t : List ℕ) (s : Situation) (p : Part) {q : ℕ} (l : Lies t p 0 q noPart) where
+module _ (t : List ℕ) (sit : Situation) (p : Part) {q : ℕ} (l : Lies t p 0 q noPart) where
   -- what a settling leaves has ended or works
   left-works : (o : Option (Rest p)) → Remains (Holding p) o → (rootEnded (marksLeft p o) || worksFrom t 0 (marksLeft p o)) ≡ true
   left-works none h = rw (root-ended p none)
   left-works (some r) h = rw (works-whole t p l r h, or-true)
 
   -- after a settling the root has ended, or a leaf or a deciding CHOICE is marked: refusal 15 never comes
-  pub never-stalls : (r : Rest p) → (rootEnded (settledFrom t s 0 (marksOf p r)) || worksFrom t 0 (settledFrom t s 0 (marksOf p r))) ≡ true
-  never-stalls r = rw (settle-root t s p l r) (left-works (settle s p r) (settle-holding s p r))
+  pub never-stalls : (r : Rest p) → (rootEnded (settledFrom t sit 0 (marksOf p r)) || worksFrom t 0 (settledFrom t sit 0 (marksOf p r))) ≡ true
+  never-stalls r = rw (settle-root t sit p l r) (left-works (settle sit p r) (settle-holding sit p r))

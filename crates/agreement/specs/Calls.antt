@@ -14,11 +14,11 @@ use Rattle.meaning.specs.Tree.{Part}
 use Rattle.meaning.specs.Program.{parts, variables, clocks, treeOf}
 use Rattle.meaning.specs.Record.{phaseOf, lastTime, estimateIn, startedIn, startsIn, recordLength, finished}
 use Rattle.meaning.specs.Answers.{answered, bufferTooShort, estimateNotAllowed}
-use Rattle.meaning.specs.Operations.{Read, Begun, Offered, Settled}
+use Rattle.meaning.specs.Operations.{Compiled, Begun, Offered, Settled}
 use Rattle.meaning.specs.Cycle.{estimateAllowed}
-use Rattle.agreement.specs.Runs.{Call, offer, settling, Reply, refused, goals, running, done, State, begin, fed, workingOf, offeredState, treeNext, treeReplies, treeAfter, treeFinishing, counted, possible, NamesContested, Timed}
+use Rattle.agreement.specs.Runs.{Call, offer, settling, Reply, refused, goals, running, done, State, begin, fed, workingOf, offeredState, treeNext, treeReplies, treeAfter, treeFinishing, settlingCount, possible, NamesContested, Timed}
 
--- The table in the buffer that reading leaves: as many bytes as the table of the file's parts has
+-- The table in the buffer that compiling leaves: as many bytes as the table of the file's parts has
 abbrev pub tableIn : List ℕ → List ℕ → List ℕ
 tableIn f out = bytesAt out 0 (lengthOf Table (parts f))
 
@@ -45,20 +45,20 @@ abbrev pub AllPromised : List ℕ → List ℕ → List Made → Type 0
 AllPromised t r [] = Unit {0}
 AllPromised t r (m ∷ ms) = Promised t r m × AllPromised t (recordFrom m) ms
 
--- What a call tells its caller, read from the answer's number and the goal buffer alone: numbers below 256 refuse, else an offer has left its
+-- The reply of a call that was made, by the answer's number and the goal buffer alone: numbers below 256 refuse, else an offer has left its
 -- V goal bytes in the buffer, and a settling's 257 is "finished" and 256 "running"
-abbrev pub told : ℕ → Made → Reply
-told v (offerMade time buffer answer r' buffer') = cond (leb answered answer) (goals (bytesAt buffer' 0 v)) (refused answer)
-told v (settlingMade est answer r') = cond (leb answered answer) (cond (eqb answer (answered + 1)) done running) (refused answer)
+abbrev pub replyOf : ℕ → Made → Reply
+replyOf v (offerMade time buffer answer r' buffer') = cond (leb answered answer) (goals (bytesAt buffer' 0 v)) (refused answer)
+replyOf v (settlingMade est answer r') = cond (leb answered answer) (cond (eqb answer (answered + 1)) done running) (refused answer)
 
 -- the name in the answer of an offer that is not refused, beside the state in which the unfolding gets this offer
-abbrev pub NameTold : (p : Part) → ℕ → State p → Made → Type 0
-NameTold p v st (offerMade time buffer answer r' buffer') = answered ≤ answer → NamesContested v (workingOf p (offeredState p st time .rest)) (answer - answered)
-NameTold p v st (settlingMade est answer r') = Unit {0}
+abbrev pub NameInAnswer : (p : Part) → ℕ → State p → Made → Type 0
+NameInAnswer p v st (offerMade time buffer answer r' buffer') = answered ≤ answer → NamesContested v (workingOf p (offeredState p st time .rest)) (answer - answered)
+NameInAnswer p v st (settlingMade est answer r') = Unit {0}
 
-abbrev pub NamesTold : (p : Part) → ℕ → ℕ → State p → List Made → Type 0
-NamesTold p v k st [] = Unit {0}
-NamesTold p v k st (m ∷ ms) = NameTold p v st m × NamesTold p v k (treeNext p v k st (fed (callOf m))) ms
+abbrev pub NamesInAnswers : (p : Part) → ℕ → ℕ → State p → List Made → Type 0
+NamesInAnswers p v k st [] = Unit {0}
+NamesInAnswers p v k st (m ∷ ms) = NameInAnswer p v st m × NamesInAnswers p v k (treeNext p v k st (fed (callOf m))) ms
 
 -- The record that a list of calls comes to
 abbrev pub recordAfter : List ℕ → List Made → List ℕ
@@ -68,13 +68,13 @@ recordAfter r (m ∷ ms) = recordAfter (recordFrom m) ms
 -- "The finishing cycle is the number of settlings not refused up to the moment at which the phase is first 2": by the records that came back
 unfoldable pub finishingCycle : ℕ → List ℕ → ℕ → List Made → Option ℕ
 finishingCycle v r n [] = cond (eqb (phaseOf r) finished) (some n) none
-finishingCycle v r n (m ∷ ms) = cond (eqb (phaseOf r) finished) (some n) (finishingCycle v (recordFrom m) (n + counted (told v m)) ms)
+finishingCycle v r n (m ∷ ms) = cond (eqb (phaseOf r) finished) (some n) (finishingCycle v (recordFrom m) (n + settlingCount (replyOf v m)) ms)
 
 -- The calls made and the unfolding are alike, from a record and a state on: all that `Alike` says, about what came back
 pub record CallsAlike (t r : List ℕ) (p : Part) (v k : ℕ) (st : State p) (ms : List Made) : Type 0 where
-  pub replies : map (told v) ms ≡ treeReplies p v k st (map callOf ms)
-  pub names : NamesTold p v k st ms
-  pub never : all possible (map (told v) ms) ≡ true
+  pub replies : map (replyOf v) ms ≡ treeReplies p v k st (map callOf ms)
+  pub names : NamesInAnswers p v k st ms
+  pub never : all possible (map (replyOf v) ms) ≡ true
   pub phases : phaseOf (recordAfter r ms) ≡ treeAfter p v k st (map callOf ms) .phase
   pub times : lastTime (recordAfter r ms) ≡ treeAfter p v k st (map callOf ms) .time
   pub estimates : estimateIn t (recordAfter r ms) ≡ treeAfter p v k st (map callOf ms) .estimate
@@ -86,16 +86,16 @@ pub record CallsAlike (t r : List ℕ) (p : Part) (v k : ℕ) (st : State p) (ms
 -- not refused, every list of calls that came back as promised is alike with the unfolding
 pub record OperationsAlike (f t est r : List ℕ) (answer : ℕ) (r' : List ℕ) : Type 0 where
   pub program : Part
-  pub read : treeOf File f ≡ some program
+  pub tree-is : treeOf File f ≡ some program
   pub beginning : answer ≡ firstFailing ((estimateNotAllowed, estimateAllowed (variables f) est) ∷ (bufferTooShort, leb recordLength (length r)) ∷ [])
   pub unbegun : (answer ≡ 0 → ⊥) → r' ≡ r
   pub begun : answer ≡ 0 → (ms : List Made) → AllPromised t r' ms → Timed (map callOf ms) → CallsAlike t r' program (variables f) (clocks f) (begin program (clocks f) est) ms
 
--- Demand 3 for the operations: whatever reading, a beginning on the table that it wrote, and calls after that answer and leave within their
--- contracts is alike with the unfolding, for every file that reading does not refuse, all buffers, every first estimate and every list of calls
+-- Demand 3 for the operations: whatever compiling, a beginning on the table that it wrote, and calls after that answer and leave within their
+-- contracts is alike with the unfolding, for every file that compiling does not refuse, all buffers, every first estimate and every list of calls
 abbrev pub OperationsAgree : Type 0
 OperationsAgree =
-    (f out : List ℕ) (answer : ℕ) (out' : List ℕ) → Read f out answer out' → answer ≡ 0
+    (f out : List ℕ) (answer : ℕ) (out' : List ℕ) → Compiled f out answer out' → answer ≡ 0
     → (est r : List ℕ) (answer' : ℕ) (r' : List ℕ) → Begun (tableIn f out') est r answer' r'
     → OperationsAlike f (tableIn f out') est r answer' r'
 

@@ -51,12 +51,12 @@ tableNext t r (settling est) = settledInto t r est
 abbrev pub Differ : List ℕ → Type 0
 Differ xs = (i : ℕ) × (j : ℕ) × (i < length xs) × (j < length xs) × (getD xs i 0 ≡ getD xs j 0 → ⊥)
 
-abbrev pub Contested : List Entry → ℕ → Type 0
-Contested es v = Differ (valuesFor v es)
+abbrev pub IsContested : List Entry → ℕ → Type 0
+IsContested es v = Differ (valuesFor v es)
 
 -- a name that an offer may give: a contested variable, or 255 exactly where none is contested
 abbrev pub NamesContested : ℕ → List Entry → ℕ → Type 0
-NamesContested n es name = ((name < n) × Contested es name) ⊎ ((name ≡ noVariable) × ((v : ℕ) → v < n → Contested es v → ⊥))
+NamesContested n es name = ((name < n) × IsContested es name) ⊎ ((name ≡ noVariable) × ((v : ℕ) → v < n → IsContested es v → ⊥))
 
 -- The run by unfolding. "Its state is the phase, last time, estimate and clocks, and what remains of the tree", of which nothing does once it has ended
 pub record State (p : Part) : Type 0 where
@@ -116,8 +116,8 @@ module _ (p : Part) where
       }
 
   abbrev pub settledRest : Situation → Option (Rest p) → Option (Rest p)
-  settledRest s none = none
-  settledRest s (some r) = settle s p r
+  settledRest sit none = none
+  settledRest sit (some r) = settle sit p r
 
   abbrev pub phaseFor : Option (Rest p) → ℕ
   phaseFor none = finished
@@ -160,19 +160,19 @@ module _ (p : Part) where
   treeAfter v k st (c ∷ cs) = treeAfter v k (treeNext v k st (fed c)) cs
 
 -- "The finishing cycle is the number of settlings not refused up to the moment at which the phase is first 2"
-abbrev pub counted : Reply → ℕ
-counted (refused n) = 0
-counted (goals g) = 0
-counted running = 1
-counted done = 1
+abbrev pub settlingCount : Reply → ℕ
+settlingCount (refused n) = 0
+settlingCount (goals g) = 0
+settlingCount running = 1
+settlingCount done = 1
 
 unfoldable pub tableFinishing : List ℕ → List ℕ → ℕ → List Call → Option ℕ
 tableFinishing t r n [] = cond (eqb (phaseOf r) finished) (some n) none
-tableFinishing t r n (c ∷ cs) = cond (eqb (phaseOf r) finished) (some n) (tableFinishing t (tableNext t r c) (n + counted (tableReply t r c)) cs)
+tableFinishing t r n (c ∷ cs) = cond (eqb (phaseOf r) finished) (some n) (tableFinishing t (tableNext t r c) (n + settlingCount (tableReply t r c)) cs)
 
 unfoldable pub treeFinishing : (p : Part) → ℕ → ℕ → State p → ℕ → List Call → Option ℕ
 treeFinishing p v k st n [] = cond (eqb (st .phase) finished) (some n) none
-treeFinishing p v k st n (c ∷ cs) = cond (eqb (st .phase) finished) (some n) (treeFinishing p v k (treeNext p v k st (fed c)) (n + counted (treeReply p v k st (fed c))) cs)
+treeFinishing p v k st n (c ∷ cs) = cond (eqb (st .phase) finished) (some n) (treeFinishing p v k (treeNext p v k st (fed c)) (n + settlingCount (treeReply p v k st (fed c))) cs)
 
 -- "An offer names a variable that is contested in the unfolding, or 255 exactly where none is": whatever name the table's offer may give
 abbrev pub NameAlike : List ℕ → List ℕ → (p : Part) → State p → Call → Type 0
@@ -210,15 +210,15 @@ Timed [] = Unit {0}
 Timed (offer time buffer ∷ cs) = (time < timeLimit) × Timed cs
 Timed (settling est ∷ cs) = Timed cs
 
--- Demand 3 for a program file, a first estimate, a record buffer and a list of calls: reading gives a tree; a beginning is refused by 13 or 8
+-- Demand 3 for a program file, a first estimate, a record buffer and a list of calls: the file has a tree; a beginning is refused by 13 or 8
 -- and then writes nothing ("a refused beginning starts neither run"); from one that is not refused on, the two runs are alike
 pub record RunsAlike (f est r : List ℕ) (cs : List Call) : Type 0 where
   pub program : Part
-  pub read : treeOf File f ≡ some program
+  pub tree-is : treeOf File f ≡ some program
   pub beginning : beginRefusal (compiled File f) est (length r) ≡ firstFailing ((estimateNotAllowed, estimateAllowed (variables f) est) ∷ (bufferTooShort, leb recordLength (length r)) ∷ [])
   pub unbegun : (beginRefusal (compiled File f) est (length r) ≡ 0 → ⊥) → begunInto (compiled File f) est r ≡ r
   pub begun : beginRefusal (compiled File f) est (length r) ≡ 0 → Alike (compiled File f) (begunInto (compiled File f) est r) program (variables f) (clocks f) (begin program (clocks f) est) cs
 
--- Demand 3: for every program file that reading accepts, every first estimate, every record buffer and every list of calls
+-- Demand 3: for every program file that compiling accepts, every first estimate, every record buffer and every list of calls
 abbrev pub Demand3 : Type 0
 Demand3 = (f est r : List ℕ) (cs : List Call) → programRefusal File f ≡ 0 → Timed cs → RunsAlike f est r cs

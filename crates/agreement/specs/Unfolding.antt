@@ -15,9 +15,9 @@ pub data Left (A B : Type 0) : Type 0 where
   both : A → B → Left A B
 
 -- What remains of a MAINTAIN: "whether this cycle's offer found it violated", and else what remains of its child
-pub data Kept (A : Type 0) : Type 0 where
-  broken : Kept A
-  holding : A → Kept A
+pub data Maintained (A : Type 0) : Type 0 where
+  broken : Maintained A
+  holding : A → Maintained A
 
 -- What remains of a CHOICE: "undecided or its chosen child"
 pub data Chosen (A B : Type 0) : Type 0 where
@@ -33,7 +33,7 @@ abbrev mutual
   Rest (wait o) = Unit {0}
   Rest (seq ps) = Current ps
   Rest (par ps) = Running ps
-  Rest (maintain o p) = Kept (Rest p)
+  Rest (maintain o p) = Maintained (Rest p)
   Rest (choice o p q) = Chosen (Rest p) (Rest q)
   Rest (repeat p) = Rest p
 
@@ -69,28 +69,28 @@ unfoldable mutual
 -- "MAINTAIN is its child, checked at each offer; once violated it offers nothing"
 unfoldable mutual
   pub check : Situation → (p : Part) → Rest p → Rest p
-  check s (goal o) r = r
-  check s (start o) r = r
-  check s (wait o) r = r
-  check s (seq ps) r = checkCurrent s ps r
-  check s (par ps) r = checkRunning s ps r
-  check s (maintain o p) broken = broken
-  check s (maintain o p) (holding r) = cond (violated s o) broken (holding (check s p r))
-  check s (choice o p q) undecided = undecided
-  check s (choice o p q) (first r) = first (check s p r)
-  check s (choice o p q) (second r) = second (check s q r)
-  check s (repeat p) r = check s p r
+  check sit (goal o) r = r
+  check sit (start o) r = r
+  check sit (wait o) r = r
+  check sit (seq ps) r = checkCurrent sit ps r
+  check sit (par ps) r = checkRunning sit ps r
+  check sit (maintain o p) broken = broken
+  check sit (maintain o p) (holding r) = cond (violated sit o) broken (holding (check sit p r))
+  check sit (choice o p q) undecided = undecided
+  check sit (choice o p q) (first r) = first (check sit p r)
+  check sit (choice o p q) (second r) = second (check sit q r)
+  check sit (repeat p) r = check sit p r
 
   pub checkCurrent : Situation → (ps : Parts) → Current ps → Current ps
-  checkCurrent s (one p) r = check s p r
-  checkCurrent s (more p ps) (inl r) = inl (check s p r)
-  checkCurrent s (more p ps) (inr c) = inr (checkCurrent s ps c)
+  checkCurrent sit (one p) r = check sit p r
+  checkCurrent sit (more p ps) (inl r) = inl (check sit p r)
+  checkCurrent sit (more p ps) (inr c) = inr (checkCurrent sit ps c)
 
   pub checkRunning : Situation → (ps : Parts) → Running ps → Running ps
-  checkRunning s (one p) r = check s p r
-  checkRunning s (more p ps) (this r) = this (check s p r)
-  checkRunning s (more p ps) (that c) = that (checkRunning s ps c)
-  checkRunning s (more p ps) (both r c) = both (check s p r) (checkRunning s ps c)
+  checkRunning sit (one p) r = check sit p r
+  checkRunning sit (more p ps) (this r) = this (check sit p r)
+  checkRunning sit (more p ps) (that c) = that (checkRunning sit ps c)
+  checkRunning sit (more p ps) (both r c) = both (check sit p r) (checkRunning sit ps c)
 
 -- The leaves that are at work, in order: GOALs offer, STARTs start their clocks
 unfoldable mutual
@@ -126,34 +126,34 @@ onward ended remains none = ended
 onward ended remains (some a) = remains a
 
 -- "PAR [ends] in the one after which no child is left running"
-abbrev pub join : {A B : Type 0} → Option A → Option B → Option (Left A B)
-join none none = none
-join none (some b) = some (that b)
-join (some a) none = some (this a)
-join (some a) (some b) = some (both a b)
+abbrev pub restOfBoth : {A B : Type 0} → Option A → Option B → Option (Left A B)
+restOfBoth none none = none
+restOfBoth none (some b) = some (that b)
+restOfBoth (some a) none = some (this a)
+restOfBoth (some a) (some b) = some (both a b)
 
 unfoldable mutual
   pub settle : Situation → (p : Part) → Rest p → Option (Rest p)
-  settle s (goal o) r = cond (reached s o) none (some tt)
-  settle s (start o) r = none
-  settle s (wait o) r = cond (satisfied s o) none (some tt)
-  settle s (seq ps) r = settleCurrent s ps r
-  settle s (par ps) r = settleRunning s ps r
-  settle s (maintain o p) broken = none
-  settle s (maintain o p) (holding r) = Option·map holding (settle s p r)
-  settle s (choice o p q) undecided = some (cond (satisfied s o) (first (afresh p)) (second (afresh q)))
-  settle s (choice o p q) (first r) = Option·map first (settle s p r)
-  settle s (choice o p q) (second r) = Option·map second (settle s q r)
-  settle s (repeat p) r = some (onward (afresh p) (λ a. a) (settle s p r))
+  settle sit (goal o) r = cond (reached sit o) none (some tt)
+  settle sit (start o) r = none
+  settle sit (wait o) r = cond (satisfied sit o) none (some tt)
+  settle sit (seq ps) r = settleCurrent sit ps r
+  settle sit (par ps) r = settleRunning sit ps r
+  settle sit (maintain o p) broken = none
+  settle sit (maintain o p) (holding r) = Option·map holding (settle sit p r)
+  settle sit (choice o p q) undecided = some (cond (satisfied sit o) (first (afresh p)) (second (afresh q)))
+  settle sit (choice o p q) (first r) = Option·map first (settle sit p r)
+  settle sit (choice o p q) (second r) = Option·map second (settle sit q r)
+  settle sit (repeat p) r = some (onward (afresh p) (λ a. a) (settle sit p r))
 
   -- "when that ends, the following one begins afresh"; "SEQ ends in the settling in which its last child ends"
   pub settleCurrent : Situation → (ps : Parts) → Current ps → Option (Current ps)
-  settleCurrent s (one p) r = settle s p r
-  settleCurrent s (more p ps) (inl r) = some (onward (inr (afreshFirst ps)) inl (settle s p r))
-  settleCurrent s (more p ps) (inr c) = Option·map inr (settleCurrent s ps c)
+  settleCurrent sit (one p) r = settle sit p r
+  settleCurrent sit (more p ps) (inl r) = some (onward (inr (afreshFirst ps)) inl (settle sit p r))
+  settleCurrent sit (more p ps) (inr c) = Option·map inr (settleCurrent sit ps c)
 
   pub settleRunning : Situation → (ps : Parts) → Running ps → Option (Running ps)
-  settleRunning s (one p) r = settle s p r
-  settleRunning s (more p ps) (this r) = Option·map this (settle s p r)
-  settleRunning s (more p ps) (that c) = Option·map that (settleRunning s ps c)
-  settleRunning s (more p ps) (both r c) = join (settle s p r) (settleRunning s ps c)
+  settleRunning sit (one p) r = settle sit p r
+  settleRunning sit (more p ps) (this r) = Option·map this (settle sit p r)
+  settleRunning sit (more p ps) (that c) = Option·map that (settleRunning sit ps c)
+  settleRunning sit (more p ps) (both r c) = restOfBoth (settle sit p r) (settleRunning sit ps c)

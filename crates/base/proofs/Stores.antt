@@ -8,7 +8,7 @@ use native.Mathlib.Numerals.{add-one}
 use native.Mathlib.Omega.{arith}
 use lib.ListN.{length, getD, take, drop, set, replicate, length-append, length-set, List·getD-map}
 use lib.Seq.{sets, drop-cons, sets-eq, length-take-le, take-at, drop-at, getD-set-same, getD-set-other, drop-set-lt, set-comm, set-set, drop-drop, drop-append-seam, drop-append-add, getD-drop}
-use Rattle.base.specs.Lists.{sum, join, bytesAt}
+use Rattle.base.specs.Lists.{sum, concat, bytesAt}
 
 -- a run of stores, and then one that begins where it ends
 pub sets-append : (l : List ℕ) (i j : ℕ) (xs ys : List ℕ) → i + length xs ≡ j → sets (sets l i xs) j ys ≡ sets l i (xs ++ ys)
@@ -118,35 +118,35 @@ pub sets-past : (xs zs : List ℕ) (k : ℕ) (ys : List ℕ) → sets (xs ++ zs)
 sets-past xs zs k [] = refl
 sets-past xs zs k (y ∷ ys) = rw (set-past xs zs k y, ← add-suc) (sets-past xs (set zs k y) (suc k) ys)
 
-drop-join-at : (ps : List (List ℕ)) (i : ℕ) → drop (sum (take i (map length ps))) (join ps) ≡ join (drop i ps)
+drop-join-at : (ps : List (List ℕ)) (i : ℕ) → drop (sum (take i (map length ps))) (concat ps) ≡ concat (drop i ps)
 drop-join-at ps zero = refl
 drop-join-at [] (suc i) = refl
-drop-join-at (p ∷ ps) (suc i) = drop-append-add p (join ps) (sum (take i (map length ps))) ∙ drop-join-at ps i
+drop-join-at (p ∷ ps) (suc i) = drop-append-add p (concat ps) (sum (take i (map length ps))) ∙ drop-join-at ps i
 
-join-at : (ps : List (List ℕ)) (i : ℕ) → join (drop i ps) ≡ getD ps i [] ++ join (drop (suc i) ps)
+join-at : (ps : List (List ℕ)) (i : ℕ) → concat (drop i ps) ≡ getD ps i [] ++ concat (drop (suc i) ps)
 join-at [] zero = refl
 join-at [] (suc i) = refl
 join-at (p ∷ ps) zero = refl
 join-at (p ∷ ps) (suc i) = join-at ps i
 
-sets-join-at : (ps : List (List ℕ)) (i : ℕ) (ys : List ℕ) → length ys ≡ getD (map length ps) i 0 → sets (join ps) (sum (take i (map length ps))) ys ≡ join (set ps i ys)
+sets-join-at : (ps : List (List ℕ)) (i : ℕ) (ys : List ℕ) → length ys ≡ getD (map length ps) i 0 → sets (concat ps) (sum (take i (map length ps))) ys ≡ concat (set ps i ys)
 sets-join-at [] i [] e = refl
 sets-join-at [] i (y ∷ ys) e = absurd (omega arith)
-sets-join-at (p ∷ ps) zero ys e = sets-over p ys (join ps) e
-sets-join-at (p ∷ ps) (suc i) ys e = sets-past p (join ps) (sum (take i (map length ps))) ys ∙ rw (sets-join-at ps i ys e)
+sets-join-at (p ∷ ps) zero ys e = sets-over p ys (concat ps) e
+sets-join-at (p ∷ ps) (suc i) ys e = sets-past p (concat ps) (sum (take i (map length ps))) ys ∙ rw (sets-join-at ps i ys e)
 
 -- Lists one after the other, of known lengths: where list i begins, what is read and what is written there
 module _ (ps : List (List ℕ)) (ws : List ℕ) (wide : map length ps ≡ ws) (i k : ℕ) (at : sum (take i ws) ≡ k) where
-  pub drop-join : drop k (join ps) ≡ join (drop i ps)
+  pub drop-join : drop k (concat ps) ≡ concat (drop i ps)
   drop-join = rw (← at, ← wide) (drop-join-at ps i)
 
-  pub sets-join : (ys : List ℕ) → length ys ≡ getD ws i 0 → sets (join ps) k ys ≡ join (set ps i ys)
+  pub sets-join : (ys : List ℕ) → length ys ≡ getD ws i 0 → sets (concat ps) k ys ≡ concat (set ps i ys)
   sets-join ys e = rw (← at, ← wide) (sets-join-at ps i ys (rw wide e))
 
-  pub bytes-join : (n : ℕ) → getD ws i 0 ≡ n → bytesAt (join ps) k n ≡ getD ps i []
+  pub bytes-join : (n : ℕ) → getD ws i 0 ≡ n → bytesAt (concat ps) k n ≡ getD ps i []
   bytes-join n e =
       let l : length (getD ps i []) ≡ n = sym (List·getD-map length ps i []) ∙ rw wide e in
-      rw (← l) (bytes-front (join ps) (getD ps i []) (join (drop (suc i) ps)) k (drop-join ∙ join-at ps i))
+      rw (← l) (bytes-front (concat ps) (getD ps i []) (concat (drop (suc i) ps)) k (drop-join ∙ join-at ps i))
 
 -- A loop that stores `turn p` at its turn p, from place to place: `rest p n` is what n turns from p on store.
 module _ (turn : ℕ → List ℕ) (rest : ℕ → ℕ → List ℕ) (more : (p n : ℕ) → rest p (suc n) ≡ turn p ++ rest (suc p) n) where

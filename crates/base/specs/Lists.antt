@@ -13,13 +13,13 @@ abbrev pub largest : List ℕ → ℕ
 largest [] = 0
 largest (n ∷ ns) = max n (largest ns)
 
--- the lists one after the other
-abbrev pub join : {A : Type 0} → List (List A) → List A
-join [] = []
-join (l ∷ ls) = l ++ join ls
+-- a list of lists as one list
+abbrev pub concat : {A : Type 0} → List (List A) → List A
+concat [] = []
+concat (l ∷ ls) = l ++ concat ls
 
 abbrev pub flat : {A B : Type 0} → (A → List B) → List A → List B
-flat f xs = join (map f xs)
+flat f xs = concat (map f xs)
 
 abbrev pub all : {A : Type 0} → (A → Bool) → List A → Bool
 all f [] = true
@@ -60,7 +60,7 @@ abbrev pub allFrom : (ℕ → Bool) → ℕ → ℕ → Bool
 allFrom f i zero = true
 allFrom f i (suc n) = f i && allFrom f (suc i) n
 
--- a truth as a byte
+-- 1 for true, 0 for false
 abbrev pub flag : Bool → ℕ
 flag true = 1
 flag false = 0

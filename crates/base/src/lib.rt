@@ -1,5 +1,5 @@
-// Reads and writes of bytes, and plain functions on lists with their laws; no word of landers. What asks for no bound
-// is total: a place beyond the end reads as 0 and is written by nothing.
+// Reads and writes of bytes, and plain functions on lists with their laws; no word of landers. A function that
+// requires no bound works at every place: beyond the end it reads 0 and writes nothing.
 ghost use mathlib.Core.Path.{_≡_};
 ghost use Prim.Native.Nat.{_+_, _<_, _≤_, _^_};
 ghost use lib.ListN.{length, getD, set, replicate};

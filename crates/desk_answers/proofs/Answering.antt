@@ -21,26 +21,26 @@ use Rattle.desk_format.proofs.Texts.{Three}
 use Rattle.desk_answers.specs.Answers.{refusedText, begunText, settledText, namedText, goalsText, offeredText, lineText}
 
 -- A beginning's line
-pub begun-done : {a : Answer} → a ≡ Done → begunText (answerNumber a) ≡ word "begun\n"
+pub begun-done-text : {a : Answer} → a ≡ Done → begunText (answerNumber a) ≡ word "begun\n"
 unfolding begunText
-begun-done told = rw told
+begun-done-text told = rw told
 
-pub begun-refused : {a : Answer} {r : Refusal} → a ≡ Refused r → begunText (answerNumber a) ≡ refusedText (refusalNumber r)
+pub begun-refused-text : {a : Answer} {r : Refusal} → a ≡ Refused r → begunText (answerNumber a) ≡ refusedText (refusalNumber r)
 unfolding begunText
-begun-refused {r = r} told = rw (told, ne-eqb (refusalNumber r) 0 (λ z. omega (arith, refusal-counts r)))
+begun-refused-text {r = r} told = rw (told, ne-eqb (refusalNumber r) 0 (λ z. omega (arith, refusal-counts r)))
 
 -- A settling's line
-pub settled-running : {a : SettleAnswer} → a ≡ Running → settledText (settleNumber a) ≡ word "running\n"
+pub settled-running-text : {a : SettleAnswer} → a ≡ Running → settledText (settleNumber a) ≡ word "running\n"
 unfolding settledText
-settled-running told = rw told
+settled-running-text told = rw told
 
-pub settled-finished : {a : SettleAnswer} → a ≡ Finished → settledText (settleNumber a) ≡ word "finished\n"
+pub settled-finished-text : {a : SettleAnswer} → a ≡ Finished → settledText (settleNumber a) ≡ word "finished\n"
 unfolding settledText
-settled-finished told = rw told
+settled-finished-text told = rw told
 
-pub settled-refused : {a : SettleAnswer} {r : Refusal} → a ≡ SettleRefused r → settledText (settleNumber a) ≡ refusedText (refusalNumber r)
+pub settled-refused-text : {a : SettleAnswer} {r : Refusal} → a ≡ SettleRefused r → settledText (settleNumber a) ≡ refusedText (refusalNumber r)
 unfolding settledText
-settled-refused {r = r} told = rw (told, lt-ltb (refusalNumber r) answered (refusal-counts r .1))
+settled-refused-text {r = r} told = rw (told, lt-ltb (refusalNumber r) answered (refusal-counts r .1))
 
 -- An offer's line
 pub offered-refused : {a : OfferAnswer} {r : Refusal} (goals : List ℕ) → a ≡ OfferRefused r → offeredText (offerNumber a) goals ≡ refusedText (refusalNumber r)

@@ -61,7 +61,7 @@ fn write_named(v: u8, out: &mut [u8], i: usize) -> usize
 }
 
 // The first v goal bytes, and the variable that is named.
-fn write_goals(goals: &[u8], v: u8, named: u8, out: &mut [u8], i: usize) -> usize
+fn write_goals_text(goals: &[u8], v: u8, named: u8, out: &mut [u8], i: usize) -> usize
     requires { ⌜ i + length (goalsText (bytesAt (now goals) 0 v) named) < 2 ^ 64 ⌝ }
     ensures { λ e. ⌜ Written (goalsText (bytesAt (now (goals .entry)) 0 v) named) (now (out .entry)) i (now (out .exit)) e ⌝ }
 {
@@ -77,8 +77,8 @@ pub fn write_offered(a: OfferAnswer, goals: &[u8], v: u8, out: &mut [u8], i: usi
 {
     match a {
         OfferAnswer::Refused(r) => write_refused(r, out, i),
-        OfferAnswer::Agreed => write_goals(goals, v, NO_VARIABLE, out, i),
-        OfferAnswer::Contested(named) => write_goals(goals, v, named, out, i),
+        OfferAnswer::Agreed => write_goals_text(goals, v, NO_VARIABLE, out, i),
+        OfferAnswer::Contested(named) => write_goals_text(goals, v, named, out, i),
     }
 }
 

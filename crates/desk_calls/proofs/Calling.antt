@@ -16,7 +16,7 @@ use Rattle.desk_parse.specs.declared.Pairs.{Pairs}
 use Rattle.desk_parse.specs.Words.{trimmed, wordOf, restOf, pairBytes, pairsOf, numeralOf}
 use Rattle.desk_calls.specs.declared.Line.{Line}
 use Rattle.desk_calls.specs.declared.Line.the-variants.{Passed, Offer, OfferInto, NotACall}
-use Rattle.desk_calls.specs.Lines.{beginWord, offerWord, settleWord, passedOver, beginWith, settleWith, offerInto, offerAt, offerWith, callOf, lineOf, bytesAfter, bytesOf}
+use Rattle.desk_calls.specs.Lines.{beginWord, offerWord, settleWord, passedOver, beginWith, settleWith, offerInto, offerAt, offerWith, lineByWord, lineOf, bytesAfter, bytesOf}
 
 pub passes : (w : List ℕ) (x : ℕ) → x ≡ getD w 0 0 → (eqb (length w) 0 || eqb x 35) ≡ passedOver w
 passes [] x e = refl
@@ -55,8 +55,8 @@ module _ (s f w : List ℕ) (n : Numeral) (f-is : f ≡ trimmed s) (w-is : w ≡
       offer-unlong d = rw (long-at, d)
 
       module _ (size : ℕ) (d : k ≡ Value size) (q o : List ℕ) (q-is : q ≡ restOf g) (o-is : o ≡ trimmed q) where
-        pub offer-long : length o ≡ 0 → OfferInto time size ≡ offerWith s
-        offer-long z = rw (long-at, d, ← q-is, ← o-is, none-left o z)
+        pub offer-with-length : length o ≡ 0 → OfferInto time size ≡ offerWith s
+        offer-with-length z = rw (long-at, d, ← q-is, ← o-is, none-left o z)
 
         pub offer-longer : (length o ≡ 0 → ⊥) → NotACall ≡ offerWith s
         offer-longer z = rw (long-at, d, ← q-is, ← o-is, some-left o z)
@@ -67,32 +67,32 @@ passed-words [] h = (refl, refl)
 passed-words (x ∷ w) h = let e : x ≡ 35 = eqb-true x 35 h in (rw e, rw e)
 
 module _ (w rest : List ℕ) (b : Bool) (b-is : b ≡ passedOver w) where
-  pub passed-told : b ≡ true → Passed ≡ callOf w rest
-  unfolding callOf
-  passed-told h = rw (← b-is, h)
+  pub passed-line : b ≡ true → Passed ≡ lineByWord w rest
+  unfolding lineByWord
+  passed-line h = rw (← b-is, h)
 
   pub passed-stored : (l : List ℕ) → b ≡ true → l ≡ sets l 0 (bytesAfter w rest)
   unfolding bytesAfter
   passed-stored l h = let p = passed-words w (sym b-is ∙ h) in rw (p .0, p .1)
 
   module _ (no-passed : b ≡ false) (x : Bool) (x-is : x ≡ same w beginWord) where
-    pub begin-told : (p : Pairs) (a : Line) → x ≡ true → p ≡ pairsOf rest → a ≡ beginWith p → a ≡ callOf w rest
-    unfolding callOf
-    begin-told p a h p-is a-is = rw (← b-is, no-passed, ← x-is, h, a-is, p-is)
+    pub begin-line : (p : Pairs) (a : Line) → x ≡ true → p ≡ pairsOf rest → a ≡ beginWith p → a ≡ lineByWord w rest
+    unfolding lineByWord
+    begin-line p a h p-is a-is = rw (← b-is, no-passed, ← x-is, h, a-is, p-is)
 
     module _ (no-begin : x ≡ false) (y : Bool) (y-is : y ≡ same w offerWord) where
-      pub offer-told : (a : Line) → y ≡ true → a ≡ offerWith rest → a ≡ callOf w rest
-      unfolding callOf
-      offer-told a h a-is = rw (← b-is, no-passed, ← x-is, no-begin, ← y-is, h, a-is)
+      pub offer-line : (a : Line) → y ≡ true → a ≡ offerWith rest → a ≡ lineByWord w rest
+      unfolding lineByWord
+      offer-line a h a-is = rw (← b-is, no-passed, ← x-is, no-begin, ← y-is, h, a-is)
 
       module _ (no-offer : y ≡ false) (z : Bool) (z-is : z ≡ same w settleWord) where
-        pub settle-told : (p : Pairs) (a : Line) → z ≡ true → p ≡ pairsOf rest → a ≡ settleWith p → a ≡ callOf w rest
-        unfolding callOf
-        settle-told p a h p-is a-is = rw (← b-is, no-passed, ← x-is, no-begin, ← y-is, no-offer, ← z-is, h, a-is, p-is)
+        pub settle-line : (p : Pairs) (a : Line) → z ≡ true → p ≡ pairsOf rest → a ≡ settleWith p → a ≡ lineByWord w rest
+        unfolding lineByWord
+        settle-line p a h p-is a-is = rw (← b-is, no-passed, ← x-is, no-begin, ← y-is, no-offer, ← z-is, h, a-is, p-is)
 
-        pub no-call-told : z ≡ false → NotACall ≡ callOf w rest
-        unfolding callOf
-        no-call-told h = rw (← b-is, no-passed, ← x-is, no-begin, ← y-is, no-offer, ← z-is, h)
+        pub no-call-line : z ≡ false → NotACall ≡ lineByWord w rest
+        unfolding lineByWord
+        no-call-line h = rw (← b-is, no-passed, ← x-is, no-begin, ← y-is, no-offer, ← z-is, h)
 
 -- The bytes that are stored
 module _ (w rest l m : List ℕ) where
@@ -114,9 +114,9 @@ no-call-stored w rest l x z x-is no-begin z-is h = rw (← x-is, no-begin, ← z
 
 -- The whole line
 module _ (l t w rest : List ℕ) (t-is : t ≡ trimmed l) (w-is : w ≡ wordOf t) (rest-is : rest ≡ restOf t) where
-  pub line-told : (a : Line) → a ≡ callOf w rest → a ≡ lineOf l
+  pub line-read : (a : Line) → a ≡ lineByWord w rest → a ≡ lineOf l
   unfolding lineOf
-  line-told a e = e ∙ rw (w-is, rest-is, t-is)
+  line-read a e = e ∙ rw (w-is, rest-is, t-is)
 
   pub line-stored : (m o : List ℕ) → o ≡ sets m 0 (bytesAfter w rest) → o ≡ sets m 0 (bytesOf l)
   unfolding bytesOf

@@ -2,10 +2,10 @@
 use Prim.Native.Nat.{ℕ}
 use mathlib.Core.Path.{_≡_, refl}
 use mathlib.Core.List.{List, [], _∷_, _++_, map}
-use Rattle.desk_parse.specs.Words.{leading, trimmed, wordOf, restOf, digitOf, pairBytes, pairsOnly, pairsOf, nextValue, valueFrom, numeralOf}
+use Rattle.desk_parse.specs.Words.{leading, trimmed, wordOf, restOf, digitOf, pairBytes, pairsOnly, pairsOf, nextValue, decimalFrom, numeralOf}
 use Rattle.desk_calls.specs.declared.Line.{Line}
 use Rattle.desk_calls.specs.declared.Line.the-variants.{Passed, Begin, Offer, OfferInto, Settle, NotACall}
-use Rattle.desk_calls.specs.Lines.{beginWord, offerWord, settleWord, offerWith, callOf, lineOf, bytesAfter, bytesOf}
+use Rattle.desk_calls.specs.Lines.{beginWord, offerWord, settleWord, offerWith, lineByWord, lineOf, bytesAfter, bytesOf}
 
 -- a line, what it says, and the bytes that it carries
 pub record Example : Type 0 where
@@ -44,5 +44,5 @@ table =
     ∷ []
 
 examples : map {B = Line × List ℕ} (λ e. (lineOf (e .line), bytesOf (e .line))) table ≡ map (λ e. (e .says, e .carries)) table
-unfolding table leading trimmed wordOf restOf digitOf pairBytes pairsOnly pairsOf nextValue valueFrom numeralOf offerWith callOf lineOf bytesAfter bytesOf
+unfolding table leading trimmed wordOf restOf digitOf pairBytes pairsOnly pairsOf nextValue decimalFrom numeralOf offerWith lineByWord lineOf bytesAfter bytesOf
 examples = refl

@@ -14,7 +14,7 @@ use Rattle.desk_parse.specs.declared.Pairs.the-variants.{Whole, Broken}
 use Rattle.desk_parse.specs.Words.{isSpace, isOther, isPair, pairByte, leading, trimmed, wordOf, restOf, pairBytes, pairsOnly, pairsOf, numeralOf}
 use Rattle.desk_calls.specs.declared.Line.{Line}
 use Rattle.desk_calls.specs.declared.Line.the-variants.{Passed, Begin, Offer, OfferInto, Settle, NotACall}
-use Rattle.desk_calls.specs.Lines.{beginWord, offerWord, settleWord, passedOver, beginWith, settleWith, offerInto, offerAt, offerWith, callOf, lineOf, bytesAfter, bytesOf}
+use Rattle.desk_calls.specs.Lines.{beginWord, offerWord, settleWord, passedOver, beginWith, settleWith, offerInto, offerAt, offerWith, lineByWord, lineOf, bytesAfter, bytesOf}
 
 pairs-half : (l : List ℕ) → 2 * length (pairBytes l) ≤ length l
 unfolding pairBytes
@@ -64,8 +64,8 @@ offer-number (Value time) l d = go (nonempty l) (numeralOf (wordOf l)) (trimmed 
     go true NoNumber r = refl
     go false k r = refl
 
-call-number : (w rest : List ℕ) → numberIn (callOf w rest) (length (bytesAfter w rest)) ≡ length (bytesAfter w rest)
-unfolding callOf bytesAfter pairsOf offerWith
+call-number : (w rest : List ℕ) → numberIn (lineByWord w rest) (length (bytesAfter w rest)) ≡ length (bytesAfter w rest)
+unfolding lineByWord bytesAfter pairsOf offerWith
 call-number w rest = go (passedOver w) (same w beginWord) (same w offerWord) (same w settleWord) (pairsOnly rest)
   where
     go : (a b c d e : Bool)

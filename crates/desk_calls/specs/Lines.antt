@@ -49,15 +49,15 @@ unfoldable pub offerWith : List ℕ → Line
 offerWith l = offerAt (numeralOf (wordOf (trimmed l))) (trimmed (restOf (trimmed l)))
 
 -- a line by its first word and what stands after it
-unfoldable pub callOf : List ℕ → List ℕ → Line
-callOf w rest =
+unfoldable pub lineByWord : List ℕ → List ℕ → Line
+lineByWord w rest =
     cond (passedOver w) Passed
     (cond (same w beginWord) (beginWith (pairsOf rest))
     (cond (same w offerWord) (offerWith rest)
     (cond (same w settleWord) (settleWith (pairsOf rest)) NotACall)))
 
 unfoldable pub lineOf : List ℕ → Line
-lineOf l = callOf (wordOf (trimmed l)) (restOf (trimmed l))
+lineOf l = lineByWord (wordOf (trimmed l)) (restOf (trimmed l))
 
 -- The bytes of a line's estimate, up to the first fault in them
 unfoldable pub bytesAfter : List ℕ → List ℕ → List ℕ

@@ -12,7 +12,7 @@ use desk_parse::trimmed;
 use desk_parse::word_of;
 ghost use mathlib.Core.Path.{_≡_};
 ghost use lib.Seq.{sets};
-ghost use Rattle.desk_calls.specs.Lines.{passedOver, beginWith, settleWith, offerWith, callOf, lineOf, bytesAfter, bytesOf};
+ghost use Rattle.desk_calls.specs.Lines.{passedOver, beginWith, settleWith, offerWith, lineByWord, lineOf, bytesAfter, bytesOf};
 
 // What a line says. `Passed` is a line with no word, or a comment. `Begin` and `Settle` have the number of bytes of
 // the estimate, which are stored in a buffer. `Offer` has a time, `OfferInto` a time and the goal buffer's length.
@@ -75,8 +75,8 @@ fn offer_with(s: &[u8]) -> Line
 }
 
 // What a line says, by its first word and what stands after it. The bytes of an estimate are stored in `bytes`.
-fn call_of(word: &[u8], rest: &[u8], bytes: &mut [u8]) -> Line
-    ensures { λ r. ⌜ r ≡ callOf (now (word .entry)) (now (rest .entry)) ⌝ }
+fn line_by_word(word: &[u8], rest: &[u8], bytes: &mut [u8]) -> Line
+    ensures { λ r. ⌜ r ≡ lineByWord (now (word .entry)) (now (rest .entry)) ⌝ }
     ensures { λ _. ⌜ now (bytes .exit) ≡ sets (now (bytes .entry)) 0 (bytesAfter (now (word .entry)) (now (rest .entry))) ⌝ }
 {
     if passed_over(word) {
@@ -101,5 +101,5 @@ pub fn read_line(line: &[u8], bytes: &mut [u8]) -> Line
     ensures { λ _. ⌜ now (bytes .exit) ≡ sets (now (bytes .entry)) 0 (bytesOf (now (line .entry))) ⌝ }
 {
     let text = trimmed(line);
-    call_of(word_of(text), rest_of(text), bytes)
+    line_by_word(word_of(text), rest_of(text), bytes)
 }

@@ -1,7 +1,7 @@
 // Lines in a buffer into which the input is read piece by piece.
 use base::at;
 use base::put;
-use desk_parse::find;
+use desk_parse::place_of;
 ghost use mathlib.Core.Path.{_≡_};
 ghost use Prim.Native.Nat.{_-_};
 ghost use lib.Seq.{sets};
@@ -13,7 +13,7 @@ ghost use Rattle.desk_calls.specs.Places.{lineEnd};
 pub fn line_end(buf: &[u8], from: usize, to: usize) -> usize
     ensures { λ r. ⌜ r ≡ lineEnd (now (buf .entry)) from to ⌝ }
 {
-    find(buf, b'\n', from, to)
+    place_of(buf, b'\n', from, to)
 }
 
 // Moves the bytes from place `from` on and before place `to` to the buffer's beginning.

@@ -36,8 +36,8 @@ module _ (a : Answer) (n : ℕ) where
 
 -- after a settling
 module _ (a : SettleAnswer) (n : ℕ) where
-  pub settle-refused : (r : Refusal) → a ≡ SettleRefused r → n ≡ cond (leb answered (settleNumber a)) (more n) n
-  settle-refused r e = rw (e, lt-leb answered (refusalNumber r) (omega (arith, refusal-counts r)))
+  pub settle-refused-count : (r : Refusal) → a ≡ SettleRefused r → n ≡ cond (leb answered (settleNumber a)) (more n) n
+  settle-refused-count r e = rw (e, lt-leb answered (refusalNumber r) (omega (arith, refusal-counts r)))
 
   pub settle-running : (m : ℕ) → a ≡ Running → m ≡ more n → m ≡ cond (leb answered (settleNumber a)) (more n) n
   settle-running m e h = rw e h

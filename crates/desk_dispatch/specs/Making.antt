@@ -19,18 +19,18 @@ abbrev pub maxGoals : ℕ
 maxGoals = 256
 
 -- What is written for a call is the text of an answer that the operation promises, for the record that it was given and the one that it leaves
-pub record BeginTold (t est r r' text : List ℕ) : Type 0 where
+pub record BeginReported (t est r r' text : List ℕ) : Type 0 where
   pub answer : ℕ
   pub made : Begun t est r answer r'
   pub text-is : text ≡ begunText answer
 
-pub record OfferTold (t r : List ℕ) (time : ℕ) (goals r' text : List ℕ) : Type 0 where
+pub record OfferReported (t r : List ℕ) (time : ℕ) (goals r' text : List ℕ) : Type 0 where
   pub answer : ℕ
   pub goals' : List ℕ
   pub made : Offered t r time goals answer r' goals'
   pub text-is : text ≡ offeredText answer (bytesAt goals' 0 (variables t))
 
-pub record SettleTold (t r est r' text : List ℕ) : Type 0 where
+pub record SettleReported (t r est r' text : List ℕ) : Type 0 where
   pub answer : ℕ
   pub made : Settled t r est answer r'
   pub text-is : text ≡ settledText answer
@@ -40,13 +40,13 @@ abbrev pub Is : List ℕ → List ℕ → Type 0
 Is a text = text ≡ a
 
 -- the text of line number n. A line that is passed over has none, and one that is no call has the words that say so
-abbrev pub Told : List ℕ → List ℕ → ℕ → Line → List ℕ → List ℕ → List ℕ → Type 0
-Told t r n Passed est r' text = (r' ≡ r) × Is [] text
-Told t r n (Begin k) est r' text = BeginTold t est r r' text
-Told t r n (Offer time) est r' text = OfferTold t r time (replicate (variables t) 0) r' text
-Told t r n (OfferInto time room) est r' text = OfferTold t r time (replicate (min room maxGoals) 0) r' text
-Told t r n (Settle k) est r' text = SettleTold t r est r' text
-Told t r n NotACall est r' text = (r' ≡ r) × Is (lineText n) text
+abbrev pub LineReported : List ℕ → List ℕ → ℕ → Line → List ℕ → List ℕ → List ℕ → Type 0
+LineReported t r n Passed est r' text = (r' ≡ r) × Is [] text
+LineReported t r n (Begin k) est r' text = BeginReported t est r r' text
+LineReported t r n (Offer time) est r' text = OfferReported t r time (replicate (variables t) 0) r' text
+LineReported t r n (OfferInto time room) est r' text = OfferReported t r time (replicate (min room maxGoals) 0) r' text
+LineReported t r n (Settle k) est r' text = SettleReported t r est r' text
+LineReported t r n NotACall est r' text = (r' ≡ r) × Is (lineText n) text
 
 -- the count of cycles after it
 abbrev pub cyclesAt : List ℕ → List ℕ → Line → List ℕ → ℕ → ℕ
@@ -67,9 +67,9 @@ endsRun (Settle k) = false
 endsRun NotACall = true
 
 -- A turn that writes a text with the property `Tells` into a buffer, from its beginning on
-pub record Turned (Tells : List ℕ → Type 0) (cycles : ℕ) (ends : Bool) (out out' : List ℕ) (turn : Turn) : Type 0 where
+pub record Turned (Reports : List ℕ → Type 0) (cycles : ℕ) (ends : Bool) (out out' : List ℕ) (turn : Turn) : Type 0 where
   pub text : List ℕ
-  pub tells : Tells text
+  pub reports : Reports text
   pub written : Written text out 0 out' (turn .length)
   pub cycles-are : turn .cycles ≡ cycles
   pub ends-is : turn .ends ≡ ends

@@ -8,7 +8,7 @@ use desk_answers::write_line_fault;
 use desk_answers::write_offered;
 use desk_answers::write_settled;
 use desk_calls::Line;
-use program_part::held::variables;
+use program_part::layout::variables;
 use run_begin::begin;
 use run_offer::offer;
 use run_settle::settle;
@@ -18,14 +18,16 @@ ghost use Prim.Native.Nat.{_≤_, min};
 ghost use lib.ListN.{replicate};
 ghost use Rattle.desk_answers.specs.Answers.{lineText};
 ghost use Rattle.desk_dispatch.specs.Counting.{begunCycles, settledCycles};
-ghost use Rattle.desk_dispatch.specs.Making.{maxGoals, Is, BeginTold, OfferTold, SettleTold, Told, cyclesAt, endsRun, Turned};
+ghost use Rattle.desk_dispatch.specs.Making.{maxGoals, Is, BeginReported, OfferReported, SettleReported, LineReported, cyclesAt, endsRun, Turned};
 
 // The longest goal buffer.
 const MAX_GOALS: usize = 256;
 
 // Begins a run.
 fn begin_call(t: &[u8], est: &[u8], r: &mut [u8], cycles: u64, out: &mut [u8]) -> Turn
-    ensures { λ x. ⌜ Turned (BeginTold (now (t .entry)) (now (est .entry)) (now (r .entry)) (now (r .exit))) (begunCycles (now (t .entry)) (now (est .entry)) (now (r .entry)) cycles) false (now (out .entry)) (now (out .exit)) x ⌝ }
+    ensures { λ x. ⌜ Turned (BeginReported (now (t .entry)) (now (est .entry)) (now (r .entry)) (now (r .exit)))
+        (begunCycles (now (t .entry)) (now (est .entry)) (now (r .entry)) cycles) false (now (out .entry))
+        (now (out .exit)) x ⌝ }
 {
     let answer = begin(t, est, r);
     let n = write_begun(answer, out, 0);
@@ -45,7 +47,7 @@ fn offer_into(
     cycles: u64,
     out: &mut [u8],
 ) -> Turn
-    ensures { λ x. ⌜ Turned (OfferTold (now (t .entry)) (now (r .entry)) time (now (goals .entry)) (now (r .exit))) cycles false (now (out .entry)) (now (out .exit)) x ⌝ }
+    ensures { λ x. ⌜ Turned (OfferReported (now (t .entry)) (now (r .entry)) time (now (goals .entry)) (now (r .exit))) cycles false (now (out .entry)) (now (out .exit)) x ⌝ }
 {
     let answer = offer(t, r, time, goals);
     let n = write_offered(answer, goals, variables(t), out, 0);
@@ -59,7 +61,7 @@ fn offer_into(
 // Makes an offer with a goal buffer of `room` bytes.
 fn offer_call(t: &[u8], r: &mut [u8], time: u32, room: usize, cycles: u64, out: &mut [u8]) -> Turn
     requires { ⌜ room ≤ maxGoals ⌝ }
-    ensures { λ x. ⌜ Turned (OfferTold (now (t .entry)) (now (r .entry)) time (replicate room 0) (now (r .exit))) cycles false (now (out .entry)) (now (out .exit)) x ⌝ }
+    ensures { λ x. ⌜ Turned (OfferReported (now (t .entry)) (now (r .entry)) time (replicate room 0) (now (r .exit))) cycles false (now (out .entry)) (now (out .exit)) x ⌝ }
 {
     let mut goals = [0u8; MAX_GOALS];
     offer_into(t, r, time, &mut goals[..room], cycles, out)
@@ -67,7 +69,9 @@ fn offer_call(t: &[u8], r: &mut [u8], time: u32, room: usize, cycles: u64, out: 
 
 // Settles a cycle.
 fn settle_call(t: &[u8], r: &mut [u8], est: &[u8], cycles: u64, out: &mut [u8]) -> Turn
-    ensures { λ x. ⌜ Turned (SettleTold (now (t .entry)) (now (r .entry)) (now (est .entry)) (now (r .exit))) (settledCycles (now (t .entry)) (now (r .entry)) (now (est .entry)) cycles) false (now (out .entry)) (now (out .exit)) x ⌝ }
+    ensures { λ x. ⌜ Turned (SettleReported (now (t .entry)) (now (r .entry)) (now (est .entry)) (now (r .exit)))
+        (settledCycles (now (t .entry)) (now (r .entry)) (now (est .entry)) cycles) false (now (out .entry))
+        (now (out .exit)) x ⌝ }
 {
     let answer = settle(t, r, est);
     let n = write_settled(answer, out, 0);
@@ -99,7 +103,7 @@ fn room_of(n: u32) -> usize
 }
 
 // Makes the call of a line, with the line's estimate. A line that is passed over has no call and no text.
-pub fn make(
+pub fn make_call(
     t: &[u8],
     r: &mut [u8],
     cycles: u64,
@@ -108,7 +112,9 @@ pub fn make(
     est: &[u8],
     out: &mut [u8],
 ) -> Turn
-    ensures { λ y. ⌜ Turned (Told (now (t .entry)) (now (r .entry)) number x (now (est .entry)) (now (r .exit))) (cyclesAt (now (t .entry)) (now (r .entry)) x (now (est .entry)) cycles) (endsRun x) (now (out .entry)) (now (out .exit)) y ⌝ }
+    ensures { λ y. ⌜ Turned (LineReported (now (t .entry)) (now (r .entry)) number x (now (est .entry))
+        (now (r .exit))) (cyclesAt (now (t .entry)) (now (r .entry)) x (now (est .entry)) cycles) (endsRun x)
+        (now (out .entry)) (now (out .exit)) y ⌝ }
 {
     match x {
         Line::Passed => Turn {

@@ -17,11 +17,11 @@ abbrev pub isDigit : ℕ → Bool
 isDigit d = leb 48 d && leb d 57
 
 -- the number that digits stand for, read on from the number x
-abbrev pub reading : ℕ → List ℕ → ℕ
-reading x [] = x
-reading x (d ∷ ds) = reading (10 * x + (d - 48)) ds
+abbrev pub decimalValue : ℕ → List ℕ → ℕ
+decimalValue x [] = x
+decimalValue x (d ∷ ds) = decimalValue (10 * x + (d - 48)) ds
 
-reading-append : (x : ℕ) (ds es : List ℕ) → reading x (ds ++ es) ≡ reading (reading x ds) es
+reading-append : (x : ℕ) (ds es : List ℕ) → decimalValue x (ds ++ es) ≡ decimalValue (decimalValue x ds) es
 reading-append x [] es = refl
 reading-append x (d ∷ ds) es = reading-append (10 * x + (d - 48)) ds es
 
@@ -49,11 +49,11 @@ digits-are (suc k) n =
     step (λ ds. all isDigit ds ≡ true) k n (λ h. rw (digit n h)) (λ h. rw (all-append isDigit (digits k (n / 10)) (glyph (n % 10) ∷ []), digits-are k (n / 10), digit (n % 10) (omega arith)))
 
 -- they read back to the number, where k are enough
-pub digits-read : (k n : ℕ) → n < 10 ^ k → reading 0 (digits k n) ≡ n
+pub digits-read : (k n : ℕ) → n < 10 ^ k → decimalValue 0 (digits k n) ≡ n
 unfolding digits
 digits-read zero n h = omega arith
 digits-read (suc k) n h =
-    step (λ ds. reading 0 ds ≡ n) k n (λ l. omega arith)
+    step (λ ds. decimalValue 0 ds ≡ n) k n (λ l. omega arith)
     (λ l. reading-append 0 (digits k (n / 10)) (glyph (n % 10) ∷ []) ∙ omega (arith, digits-read k (n / 10) (fewer k n h)))
 
 first-append : (xs ys : List ℕ) → 48 < getD xs 0 0 → 48 < getD (xs ++ ys) 0 0

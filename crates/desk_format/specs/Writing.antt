@@ -4,7 +4,7 @@ use mathlib.Core.Path.{_≡_}
 use mathlib.Core.List.{List}
 use lib.ListN.{length}
 use lib.Seq.{sets}
-use Rattle.base.specs.Lists.{join, tabulate}
+use Rattle.base.specs.Lists.{concat, tabulate}
 
 -- `text` stored into l from place i on gives m, and j is the place after it
 pub record Written (text l : List ℕ) (i : ℕ) (m : List ℕ) (j : ℕ) : Type 0 where
@@ -13,4 +13,4 @@ pub record Written (text l : List ℕ) (i : ℕ) (m : List ℕ) (j : ℕ) : Type
 
 -- the n texts from number i on, one after the other
 unfoldable pub textsFrom : (ℕ → List ℕ) → ℕ → ℕ → List ℕ
-textsFrom f i n = join (tabulate f i n)
+textsFrom f i n = concat (tabulate f i n)

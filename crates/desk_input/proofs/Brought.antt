@@ -16,7 +16,7 @@ use borrow.Rule.Slice.PartMut.{putMid, midOf, mid-len, take-put}
 use Rattle.io.specs.Counts.{clamped}
 use Rattle.desk_input.specs.declared.Piece.{Piece}
 use Rattle.desk_input.specs.declared.Piece.the-variants.{Failed, Held}
-use Rattle.desk_input.specs.Reading.{isOpen, pieceOf, Reads, Filled, none, more, Whole, full, ended, failed, FileRead, unopened, opened, Within}
+use Rattle.desk_input.specs.Reading.{isOpen, pieceOf, Reads, Filled, none, more, Whole, full, ended, failed, FileRead, unopened, opened, FitsBuffer}
 
 open-of : (fd : ℤ) → not (ltZ fd (pos 0)) ≡ isOpen fd
 open-of (pos k) = rw (le-ltb k 0 (omega arith)) refl
@@ -89,15 +89,15 @@ file-inside buf p k b e (unopened fd is-none is same) = absurd (held-not-failed 
 file-inside buf p k b e (opened fd is-one w) = whole-inside buf p k b e w
 
 -- and so for any piece
-pub whole-within : (buf : List ℕ) (p : Piece) (b : List ℕ) → Whole buf p b → Within p (length b)
+pub whole-within : (buf : List ℕ) (p : Piece) (b : List ℕ) → Whole buf p b → FitsBuffer p (length b)
 whole-within buf Failed b w = tt
 whole-within buf (Held k) b w = whole-inside buf (Held k) k b refl w
 
-pub file-within : (buf : List ℕ) (p : Piece) (b : List ℕ) → FileRead buf p b → Within p (length b)
+pub file-within : (buf : List ℕ) (p : Piece) (b : List ℕ) → FileRead buf p b → FitsBuffer p (length b)
 file-within buf Failed b r = tt
 file-within buf (Held k) b r = file-inside buf (Held k) k b refl r
 
-pub held-fits : (p : Piece) (k n : ℕ) → p ≡ Held k → Within p n → k ≤ n
+pub held-fits : (p : Piece) (k n : ℕ) → p ≡ Held k → FitsBuffer p n → k ≤ n
 held-fits p k n e w = rw e at w
 
 -- by the test of the descriptor

@@ -42,6 +42,6 @@ pub data FileRead (buf : List ℕ) (piece : Piece) (buf' : List ℕ) : Type 0 wh
   opened : (fd : ℤ) → isOpen fd ≡ true → Whole buf piece buf' → FileRead buf piece buf'
 
 -- what a read holds lies within a buffer of so many bytes
-abbrev pub Within : Piece → ℕ → Type 0
-Within Failed n = Unit {0}
-Within (Held k) n = k ≤ n
+abbrev pub FitsBuffer : Piece → ℕ → Type 0
+FitsBuffer Failed n = Unit {0}
+FitsBuffer (Held k) n = k ≤ n

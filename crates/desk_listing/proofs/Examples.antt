@@ -4,7 +4,7 @@ use mathlib.Core.Path.{_≡_, refl}
 use mathlib.Core.List.{List, [], _∷_}
 use Rattle.meaning.specs.Kinds.{kindOf, numberOf, known, arity, testOf, testAllowed, conditionAllowed, goalAllowed, startAllowed, countAllowed, emptyAllowed, operandAllowed}
 use Rattle.meaning.specs.Tree.{fold, depth, size}
-use Rattle.meaning.specs.Program.{sizesAllowed, entries, preorder, knownEntry, allowedEntry, arityOf, make, place, trees, treeOf, programRefusal}
+use Rattle.meaning.specs.Program.{sizesAllowed, entries, preorder, entryKnown, entryAllowed, arityOf, makePart, takeChildren, trees, treeOf, programRefusal}
 use Rattle.meaning.specs.Table.{nextOf, block, tableOf, compiled}
 use Rattle.desk_format.specs.Decimal.{digits, decimal}
 use Rattle.desk_format.specs.Writing.{textsFrom}
@@ -23,7 +23,7 @@ text10 =
     ∷ []
 
 station10 : listing file10 ≡ text10
-unfolding file10 text10 kindOf numberOf known arity testOf testAllowed conditionAllowed goalAllowed startAllowed countAllowed emptyAllowed operandAllowed fold depth size sizesAllowed entries preorder knownEntry allowedEntry arityOf make place trees treeOf programRefusal nextOf block tableOf compiled digits decimal line textsFrom rowLines tableText listing
+unfolding file10 text10 kindOf numberOf known arity testOf testAllowed conditionAllowed goalAllowed startAllowed countAllowed emptyAllowed operandAllowed fold depth size sizesAllowed entries preorder entryKnown entryAllowed arityOf makePart takeChildren trees treeOf programRefusal nextOf block tableOf compiled digits decimal line textsFrom rowLines tableText listing
 station10 = refl
 
 -- an empty file gets "1"

@@ -68,8 +68,8 @@ line-fits (n ∷ ns) = omega (arith, length-append (decimal n) (separator (nonem
 
 -- a line that is written of numbers ns is that of the same numbers ms
 module _ (ns ms : List ℕ) (i : ℕ) (e : ns ≡ ms) where
-  pub same-room : i + length (line ms) < 2 ^ 64 → i + length (line ns) < 2 ^ 64
-  same-room h = rw e h
+  pub same-line-room : i + length (line ms) < 2 ^ 64 → i + length (line ns) < 2 ^ 64
+  same-line-room h = rw e h
 
   pub same-line : (l m : List ℕ) (j : ℕ) → Written (line ns) l i m j → Written (line ms) l i m j
   same-line l m j w = rw e at w
@@ -83,9 +83,9 @@ module _ (t l m : List ℕ) (i j p e : ℕ) where
   abbrev RowsLeft : ℕ → List ℕ → ℕ → Type 0
   RowsLeft q o r = Writing (rowLines t 0 (parts t)) l i (rowLines t q (e - q)) o r
 
-  pub rows-first : e ≡ parts t → RowsLeft 0 l i
+  pub row-lines-first : e ≡ parts t → RowsLeft 0 l i
   unfolding rowLines
-  rows-first h = rw (← h) (texts-first (rowLine t) l i e)
+  row-lines-first h = rw (← h) (texts-first (rowLine t) l i e)
 
   pub rows-room : p < e → RowsLeft p m j → i + length (rowLines t 0 (parts t)) < 2 ^ 64 → j + length (line (rowNumbers t p)) < 2 ^ 64
   unfolding rowLines
@@ -95,9 +95,9 @@ module _ (t l m : List ℕ) (i j p e : ℕ) where
   unfolding rowLines
   rows-step o r h w x = texts-step (rowLine t) (rowLines t 0 (parts t)) l m i j p e o r h w x
 
-  pub rows-end : e ≤ p → RowsLeft p m j → Written (rowLines t 0 (parts t)) l i m j
+  pub row-lines-end : e ≤ p → RowsLeft p m j → Written (rowLines t 0 (parts t)) l i m j
   unfolding rowLines
-  rows-end h w = texts-end (rowLine t) (rowLines t 0 (parts t)) l m i j p e h w
+  row-lines-end h w = texts-end (rowLine t) (rowLines t 0 (parts t)) l m i j p e h w
 
 -- rows take at most nine numbers each
 pub rows-fit : (t : List ℕ) (p n : ℕ) → length (rowLines t p n) ≤ 9 * (maxDigits + 1) * n
@@ -108,6 +108,6 @@ rows-fit t p n = texts-fit (rowLine t) (9 * (maxDigits + 1)) p n (λ q. omega (a
 pub table-room : (t ns : List ℕ) (j : ℕ) → ns ≡ sizeNumbers t → j ≡ 0 + length (line ns) → parts t < numberLimit → j + length (rowLines t 0 (parts t)) < 2 ^ 64
 table-room t ns j e a h = omega (arith, line-fits ns, ap length e, rows-fit t 0 (parts t))
 
-pub table-written : (t ns l m o : List ℕ) (j k : ℕ) → ns ≡ sizeNumbers t → Written (line ns) l 0 m j → Written (rowLines t 0 (parts t)) m j o k → Written (tableText t) l 0 o k
+pub table-text-written : (t ns l m o : List ℕ) (j k : ℕ) → ns ≡ sizeNumbers t → Written (line ns) l 0 m j → Written (rowLines t 0 (parts t)) m j o k → Written (tableText t) l 0 o k
 unfolding tableText
-table-written t ns l m o j k e a b = rw e at (written-append (line ns) (rowLines t 0 (parts t)) l m o 0 j k a b)
+table-text-written t ns l m o j k e a b = rw e at (written-append (line ns) (rowLines t 0 (parts t)) l m o 0 j k a b)

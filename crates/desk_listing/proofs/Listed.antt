@@ -1,4 +1,4 @@
--- The listing: what `list` writes where the file is read into its table and where it is refused, and how long it can be.
+-- The listing: what `list` writes where the file is compiled and where it is refused, and how long it can be.
 use Prim.Native.Nat.{ℕ, zero, suc, _+_, _≤_}
 use native.Mathlib.Nat.{zero-add}
 use native.Mathlib.Omega.{arith}
@@ -17,7 +17,7 @@ use Rattle.meaning.specs.Answers.{refusalNumber, answerNumber}
 use Rattle.meaning.specs.Sizes.{maxParts, lengthOf}
 use Rattle.meaning.specs.Tree.{Part}
 use Rattle.meaning.specs.Program.{parts, variables, clocks, programRefusal}
-use Rattle.meaning.specs.Table.{compiled, readRefusal, readInto}
+use Rattle.meaning.specs.Table.{compiled, compileRefusal, compiledInto}
 use Rattle.meaning.proofs.Answers.{refusal-counts}
 use Rattle.meaning.proofs.Files.{Holds, accepted}
 use Rattle.meaning.proofs.Tables.{compiled-is, table-holds}
@@ -87,8 +87,8 @@ unfolding listing
 listing-refused f h = rw (ne-eqb (programRefusal File f) 0 h)
 
 -- a buffer for the most rows gets no refusal 8
-room-enough : (f : List ℕ) (room : ℕ) → lengthOf Table maxParts ≤ room → readRefusal f room ≡ programRefusal File f
-unfolding readRefusal
+room-enough : (f : List ℕ) (room : ℕ) → lengthOf Table maxParts ≤ room → compileRefusal f room ≡ programRefusal File f
+unfolding compileRefusal
 room-enough f room h = go (eqb (programRefusal File f) 0) refl
   where
     go : (b : Bool) → eqb (programRefusal File f) 0 ≡ b → cond b (cond (leb (lengthOf Table (parts f)) room) 0 8) (programRefusal File f) ≡ programRefusal File f
@@ -111,16 +111,16 @@ listing-fits f = go (eqb (programRefusal File f) 0) refl
     go false e = omega (arith, line-fits (programRefusal File f ∷ []))
 
 -- The table that is read reads like the file's, and stands in the buffer with all its rows
-module _ (f : List ℕ) (n : ℕ) (room : lengthOf Table maxParts ≤ n) (a : Answer) (a-is : answerNumber a ≡ readRefusal f (length (zeros n))) where
+module _ (f : List ℕ) (n : ℕ) (room : lengthOf Table maxParts ≤ n) (a : Answer) (a-is : answerNumber a ≡ compileRefusal f (length (zeros n))) where
   refusal-is : answerNumber a ≡ programRefusal File f
   refusal-is = a-is ∙ room-enough f (length (zeros n)) (rw length-replicate room)
 
-  module _ (t : List ℕ) (t-is : t ≡ readInto f (zeros n)) (d : a ≡ Done) where
+  module _ (t : List ℕ) (t-is : t ≡ compiledInto f (zeros n)) (d : a ≡ Done) where
     accepts : programRefusal File f ≡ 0
     accepts = sym refusal-is ∙ ap answerNumber d
 
     alike : (i : ℕ) → getD t i 0 ≡ getD (compiled File f) i 0
-    unfolding readInto
+    unfolding compiledInto
     alike =
         let s : t ≡ sets (zeros n) 0 (compiled File f) = t-is ∙ rw (← a-is, d) in
         rw s (stored-reads n (compiled File f) (omega (arith, table-fits f accepts)))
@@ -138,8 +138,8 @@ module _ (f out m : List ℕ) (r : ℕ) where
       let n : r ≡ length (listing f) = w .after ∙ rw (zero-add, e) in
       (n, (rw e at (w .bytes), omega (arith, listing-fits f)))
 
-  module _ (n : ℕ) (room : lengthOf Table maxParts ≤ n) (a : Answer) (a-is : answerNumber a ≡ readRefusal f (length (zeros n))) where
-    pub list-done : (t : List ℕ) → t ≡ readInto f (zeros n) → a ≡ Done → Written (tableText t) out 0 m r → Listed
+  module _ (n : ℕ) (room : lengthOf Table maxParts ≤ n) (a : Answer) (a-is : answerNumber a ≡ compileRefusal f (length (zeros n))) where
+    pub list-done : (t : List ℕ) → t ≡ compiledInto f (zeros n) → a ≡ Done → Written (tableText t) out 0 m r → Listed
     list-done t t-is d w =
         listed (tableText t) (text-alike t (compiled File f) (alike f n room a a-is t t-is d) ∙ sym (listing-table f (accepts f n room a a-is t t-is d))) w
 

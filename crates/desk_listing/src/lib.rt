@@ -3,7 +3,7 @@ pub mod lines;
 pub mod rows;
 
 use crate::lines::write_line;
-use crate::rows::write_table;
+use crate::rows::write_table_text;
 use meaning::Answer;
 use meaning::Refusal;
 use meaning::refusal_number;
@@ -30,7 +30,7 @@ pub fn list(file: &[u8], out: &mut [u8]) -> usize
     let mut table = [0u8; MAX_TABLE];
     let answer = compile(file, &mut table);
     match answer {
-        Answer::Done => write_table(&table, out),
+        Answer::Done => write_table_text(&table, out),
         Answer::Refused(r) => write_refusal(r, out),
     }
 }

@@ -63,9 +63,9 @@ module _ (s l m : List ℕ) (i n x : ℕ) (x-is : x ≡ getD s i 0) (h : i < len
     faulty : not p ≡ true → (pairBytes (drop i s) ≡ []) × (pairsOnly (drop i s) ≡ false)
     faulty f = rw left (fault-first x other (drop (suc i) s) (rw (← second, ← p-is) (not-true p f)))
 
-    pub fault-told : not p ≡ true → Broken ≡ pairsOf s
+    pub fault-found : not p ≡ true → Broken ≡ pairsOf s
     unfolding pairsOf
-    fault-told f = rw (← (w .sound), faulty f .1)
+    fault-found f = rw (← (w .sound), faulty f .1)
 
     pub fault-stored : not p ≡ true → m ≡ sets l 0 (pairBytes s)
     fault-stored f = rw (faulty f .0) at (w .completes)
@@ -85,9 +85,9 @@ module _ (s l m : List ℕ) (i n x : ℕ) (x-is : x ≡ getD s i 0) (h : i < len
 
 -- The end
 module _ (s l m : List ℕ) (i n : ℕ) (w : Reading s l m i n) (h : length s ≤ i) where
-  pub whole-told : Whole n ≡ pairsOf s
+  pub whole-found : Whole n ≡ pairsOf s
   unfolding pairBytes pairsOnly pairsOf
-  whole-told =
+  whole-found =
       let e : n ≡ length (pairBytes s) = rw (drop-of-length-le s h, add-zero) at (w .counts) in
       rw (← (rw (drop-of-length-le s h) at (w .sound)), e)
 

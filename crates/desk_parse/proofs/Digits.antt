@@ -12,7 +12,7 @@ use borrow.Author.Tests.{leb-true, ltb-true, not-false}
 use Rattle.base.proofs.Lists.{and-left, and-right}
 use Rattle.desk_parse.specs.declared.Numeral.{Numeral}
 use Rattle.desk_parse.specs.declared.Numeral.the-variants.{Value, NoNumber}
-use Rattle.desk_parse.specs.Words.{digitOf, isPair, nextValue, goesOn, valueFrom, numeralOf}
+use Rattle.desk_parse.specs.Words.{digitOf, isPair, nextValue, goesOn, decimalFrom, numeralOf}
 
 -- a byte between two others
 pub between : (a b x : ℕ) → (leb a x && leb x b) ≡ true → (a ≤ x) × (x ≤ b)
@@ -58,7 +58,7 @@ module _ (x d v : ℕ) (v-is : v ≡ digitOf d) where
   digit-refused h = rw (← v-is, h)
 
 -- A number, digit by digit
-pub value-starts : (w : List ℕ) → (length w ≡ 0 → ⊥) → valueFrom 0 w ≡ numeralOf w
+pub value-starts : (w : List ℕ) → (length w ≡ 0 → ⊥) → decimalFrom 0 w ≡ numeralOf w
 unfolding numeralOf
 value-starts [] h = absurd (h refl)
 value-starts (d ∷ w) h = refl
@@ -68,17 +68,17 @@ unfolding numeralOf
 value-missing [] h = refl
 value-missing (d ∷ w) h = absurd (omega arith)
 
-module _ (w : List ℕ) (i x : ℕ) (z n : Numeral) (n-is : n ≡ nextValue x (getD w i 0)) (inv : valueFrom x (drop i w) ≡ z) where
-  turned : i < length w → goesOn (λ y. valueFrom y (drop (suc i) w)) n ≡ z
-  unfolding valueFrom
+module _ (w : List ℕ) (i x : ℕ) (z n : Numeral) (n-is : n ≡ nextValue x (getD w i 0)) (inv : decimalFrom x (drop i w) ≡ z) where
+  turned : i < length w → goesOn (λ y. decimalFrom y (drop (suc i) w)) n ≡ z
+  unfolding decimalFrom
   turned h = rw n-is (rw (drop-cons w i 0 h) at inv)
 
-  pub value-next : (y : ℕ) → i < length w → n ≡ Value y → valueFrom y (drop (i + 1) w) ≡ z
+  pub value-next : (y : ℕ) → i < length w → n ≡ Value y → decimalFrom y (drop (i + 1) w) ≡ z
   value-next y h e = rw (add-one i) (rw e at (turned h))
 
   pub value-stops : i < length w → n ≡ NoNumber → NoNumber ≡ z
   value-stops h e = rw e at (turned h)
 
-pub value-ends : (w : List ℕ) (i x : ℕ) (z : Numeral) → valueFrom x (drop i w) ≡ z → length w ≤ i → Value x ≡ z
-unfolding valueFrom
+pub value-ends : (w : List ℕ) (i x : ℕ) (z : Numeral) → decimalFrom x (drop i w) ≡ z → length w ≤ i → Value x ≡ z
+unfolding decimalFrom
 value-ends w i x z inv h = rw (drop-of-length-le w h) at inv

@@ -13,7 +13,7 @@ use borrow.Author.Tests.{eq-eqb, ne-eqb, le-leb, leb-true}
 use Rattle.base.specs.Lists.{same, bytesAt}
 use Rattle.base.proofs.Stores.{bytes-all, length-bytes}
 use Rattle.desk_parse.specs.Words.{isSpace, isOther, leading, trimmed, wordOf, restOf}
-use Rattle.desk_parse.specs.Places.{place}
+use Rattle.desk_parse.specs.Places.{placeOf}
 
 -- no more elements than there are
 pub leading-few : (t : ℕ → Bool) (l : List ℕ) → leading t l ≤ length l
@@ -84,25 +84,25 @@ module _ (s : List ℕ) (i x : ℕ) (inv : i + leading isSpace (drop i s) ≡ x)
   space-ends few h = omega (arith, rw (drop-of-length-le s h, add-zero) at inv)
 
 -- The first byte b
-module _ (b : ℕ) (s : List ℕ) (i to x y : ℕ) (y-is : y ≡ getD s i 0) (inv : place b s i to ≡ x) where
+module _ (b : ℕ) (s : List ℕ) (i to x y : ℕ) (y-is : y ≡ getD s i 0) (inv : placeOf b s i to ≡ x) where
   pub place-here : i < to → y ≡ b → i ≡ x
-  unfolding place leading
+  unfolding placeOf leading
   place-here h e =
       let k : to - i ≡ suc (to - suc i) = omega arith in
       let l : i ≤ to = omega arith in
       let d : getD s i 0 ≡ b = sym y-is ∙ e in
       rw (le-leb i to l, k, eq-eqb (getD s i 0) b d, add-zero) at inv
 
-  pub place-next : i < to → (y ≡ b → ⊥) → place b s (i + 1) to ≡ x
-  unfolding place leading
+  pub place-next : i < to → (y ≡ b → ⊥) → placeOf b s (i + 1) to ≡ x
+  unfolding placeOf leading
   place-next h e =
       let k : to - i ≡ suc (to - suc i) = omega arith in
       let l : i ≤ to = omega arith in
       let d : (getD s i 0 ≡ b → ⊥) = λ z. e (y-is ∙ z) in
       rw (add-one i, le-leb (suc i) to h, suc-add) (rw (le-leb i to l, k, ne-eqb (getD s i 0) b d, add-suc) at inv)
 
-pub place-ends : (b : ℕ) (s : List ℕ) (i to x : ℕ) → place b s i to ≡ x → to ≤ i → to ≡ x
-unfolding place leading
+pub place-ends : (b : ℕ) (s : List ℕ) (i to x : ℕ) → placeOf b s i to ≡ x → to ≤ i → to ≡ x
+unfolding placeOf leading
 place-ends b s i to x inv h = sym (go (leb i to) refl) ∙ inv
   where
     go : (c : Bool) → leb i to ≡ c → cond c (i + leading (isOther b) (bytesAt s i (to - i))) to ≡ to
@@ -112,15 +112,15 @@ place-ends b s i to x inv h = sym (go (leb i to) refl) ∙ inv
     go false e = refl
 
 -- it is no place before `from` and none after `to`
-pub place-within : (b : ℕ) (s : List ℕ) (from to : ℕ) → from ≤ to → (from ≤ place b s from to) × (place b s from to ≤ to)
-unfolding place
+pub place-within : (b : ℕ) (s : List ℕ) (from to : ℕ) → from ≤ to → (from ≤ placeOf b s from to) × (placeOf b s from to ≤ to)
+unfolding placeOf
 place-within b s from to h =
     let k = leading-few (isOther b) (bytesAt s from (to - from)) in
     rw (le-leb from to h) (omega arith, omega (arith, k, length-bytes s from (to - from)))
 
 -- in a whole text it is where the bytes that are not b end
-pub place-all : (b : ℕ) (s : List ℕ) (r : ℕ) → r ≡ place b s 0 (length s) → r ≡ leading (isOther b) s
-unfolding place
+pub place-all : (b : ℕ) (s : List ℕ) (r : ℕ) → r ≡ placeOf b s 0 (length s) → r ≡ leading (isOther b) s
+unfolding placeOf
 place-all b s r e = e ∙ rw (le-leb 0 (length s) (omega arith), zero-add, sub-zero, bytes-all)
 
 -- Two words, byte by byte

@@ -72,10 +72,10 @@ goesOn f (Value x) = f x
 goesOn f NoNumber = NoNumber
 
 -- the number that digits stand for, read on from the number x
-unfoldable pub valueFrom : ℕ → List ℕ → Numeral
-valueFrom x [] = Value x
-valueFrom x (d ∷ ds) = goesOn (λ y. valueFrom y ds) (nextValue x d)
+unfoldable pub decimalFrom : ℕ → List ℕ → Numeral
+decimalFrom x [] = Value x
+decimalFrom x (d ∷ ds) = goesOn (λ y. decimalFrom y ds) (nextValue x d)
 
 -- a word as a number: at least one digit
 unfoldable pub numeralOf : List ℕ → Numeral
-numeralOf w = cond (nonempty w) (valueFrom 0 w) NoNumber
+numeralOf w = cond (nonempty w) (decimalFrom 0 w) NoNumber

@@ -6,7 +6,7 @@ use base::at;
 ghost use mathlib.Core.Path.{_≡_};
 ghost use Rattle.base.specs.Lists.{same};
 ghost use Rattle.desk_parse.specs.Words.{isSpace, isOther, leading, trimmed, wordOf, restOf};
-ghost use Rattle.desk_parse.specs.Places.{place};
+ghost use Rattle.desk_parse.specs.Places.{placeOf};
 
 // A number below 2^32 in decimal, or a word that is none.
 pub enum Numeral {
@@ -22,8 +22,8 @@ pub enum Pairs {
 
 // The place of the first byte b from place `from` on and before place `to`, or `to` where there is
 // none.
-pub fn find(s: &[u8], b: u8, from: usize, to: usize) -> usize
-    ensures { λ r. ⌜ r ≡ place b (now (s .entry)) from to ⌝ }
+pub fn place_of(s: &[u8], b: u8, from: usize, to: usize) -> usize
+    ensures { λ r. ⌜ r ≡ placeOf b (now (s .entry)) from to ⌝ }
 {
     for i in from..to {
         if at(s, i) == b {
@@ -49,7 +49,7 @@ fn spaces(s: &[u8]) -> usize
 fn letters(s: &[u8]) -> usize
     ensures { λ r. ⌜ r ≡ leading (isOther 32) (now (s .entry)) ⌝ }
 {
-    find(s, b' ', 0, s.len())
+    place_of(s, b' ', 0, s.len())
 }
 
 // The text after its leading spaces.

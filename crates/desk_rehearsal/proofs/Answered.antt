@@ -17,11 +17,11 @@ use Rattle.desk_calls.specs.declared.Line.{Line}
 use Rattle.desk_calls.specs.declared.Line.the-variants.{Passed, Begin, Offer, OfferInto, Settle, NotACall}
 use Rattle.desk_calls.specs.Lines.{bytesOf}
 use Rattle.desk_transcript.specs.Transcript.{partsText, maxAnswer}
-use Rattle.desk_transcript.proofs.Lengths.{line-fits, begun-fits, settled-fits, offered-fits}
+use Rattle.desk_transcript.proofs.Lengths.{line-text-fits, begun-text-fits, settled-text-fits, offered-text-fits}
 use Rattle.desk_dispatch.specs.declared.Turn.{Turn}
-use Rattle.desk_dispatch.specs.Making.{OfferTold, Told, cyclesAt, endsRun, Turned}
-use Rattle.desk_rehearsal.specs.Rehearsal.{isCall, partsUnder, Answered, estimateLength, Hearing, Under}
-use Rattle.desk_rehearsal.proofs.Estimates.{told-carried, cycles-carried}
+use Rattle.desk_dispatch.specs.Making.{OfferReported, LineReported, cyclesAt, endsRun, Turned}
+use Rattle.desk_rehearsal.specs.Rehearsal.{isCall, partsUnder, Answered, estimateLength, LineParsed, Under}
+use Rattle.desk_rehearsal.proofs.Estimates.{reported-carried, cycles-carried}
 
 -- the parts, where they are not asked for and where they are
 module _ (asked : Bool) (t r out : List ℕ) (turn : Turn) where
@@ -47,29 +47,29 @@ module _ (t r r' : List ℕ) (n : ℕ) (few : parts t < numberLimit) (narrow : v
   call-fits true text h = h
   call-fits false text h = omega arith
 
-  offer-fits : (time : ℕ) (goals text : List ℕ) (asked : Bool) → OfferTold t r time goals r' text → Fits (asked && true) text
-  offer-fits time goals text asked h = call-fits asked text (rw (h .text-is) (offered-fits t r' (h .answer) few (bytesAt (h .goals') 0 (variables t)) (rw length-bytes narrow)))
+  offer-fits : (time : ℕ) (goals text : List ℕ) (asked : Bool) → OfferReported t r time goals r' text → Fits (asked && true) text
+  offer-fits time goals text asked h = call-fits asked text (rw (h .text-is) (offered-text-fits t r' (h .answer) few (bytesAt (h .goals') 0 (variables t)) (rw length-bytes narrow)))
 
-  told-fits : (x : Line) (est text : List ℕ) (asked : Bool) → Told t r n x est r' text → Fits (asked && isCall x) text
-  told-fits Passed est text asked h = none-fits asked text (rw (h .1) (omega arith))
-  told-fits (Begin k) est text asked h = call-fits asked text (rw (h .text-is) (begun-fits t r' (h .answer) few))
-  told-fits (Offer time) est text asked h = offer-fits time _ text asked h
-  told-fits (OfferInto time room) est text asked h = offer-fits time _ text asked h
-  told-fits (Settle k) est text asked h = call-fits asked text (rw (h .text-is) (settled-fits t r' (h .answer) few))
-  told-fits NotACall est text asked h = none-fits asked text (rw (h .1) (line-fits n))
+  reported-fits : (x : Line) (est text : List ℕ) (asked : Bool) → LineReported t r n x est r' text → Fits (asked && isCall x) text
+  reported-fits Passed est text asked h = none-fits asked text (rw (h .1) (omega arith))
+  reported-fits (Begin k) est text asked h = call-fits asked text (rw (h .text-is) (begun-text-fits t r' (h .answer) few))
+  reported-fits (Offer time) est text asked h = offer-fits time _ text asked h
+  reported-fits (OfferInto time room) est text asked h = offer-fits time _ text asked h
+  reported-fits (Settle k) est text asked h = call-fits asked text (rw (h .text-is) (settled-text-fits t r' (h .answer) few))
+  reported-fits NotACall est text asked h = none-fits asked text (rw (h .1) (line-text-fits n))
 
 -- After a line is read: x is the line, its estimate stands at the beginning of `bytes`, and a text has been written for it
-module _ (t r line bytes : List ℕ) (cycles number k : ℕ) (x : Line) (asked b : Bool) (r' out mid : List ℕ) (turn : Turn) (h : Hearing line bytes x) (k-is : k ≡ estimateLength x) (b-is : b ≡ isCall x)
-    (z : Turned (Told t r number x (take k bytes) r') (cyclesAt t r x (take k bytes) cycles) (endsRun x) out mid turn) where
-  told : Told t r number x (bytesOf line) r' (z .text)
-  told = told-carried bytes (bytesOf line) t r number r' (z .text) x (h .carried) (rw k-is at (z .tells))
+module _ (t r line bytes : List ℕ) (cycles number k : ℕ) (x : Line) (asked b : Bool) (r' out mid : List ℕ) (turn : Turn) (h : LineParsed line bytes x) (k-is : k ≡ estimateLength x) (b-is : b ≡ isCall x)
+    (z : Turned (LineReported t r number x (take k bytes) r') (cyclesAt t r x (take k bytes) cycles) (endsRun x) out mid turn) where
+  reported : LineReported t r number x (bytesOf line) r' (z .text)
+  reported = reported-carried bytes (bytesOf line) t r number r' (z .text) x (h .carried) (rw k-is at (z .reports))
 
   length-is : turn .length ≡ length (z .text)
   length-is = z .written .after ∙ zero-add (length (z .text))
 
   module _ (few : parts t < numberLimit) (narrow : variables t < byteValues) where
     fits : turn .length + length (partsUnder (asked && b) t r') ≤ maxAnswer
-    fits = rw (length-is, b-is) (told-fits t r r' number few narrow x (bytesOf line) (z .text) asked told)
+    fits = rw (length-is, b-is) (reported-fits t r r' number few narrow x (bytesOf line) (z .text) asked reported)
 
     pub answer-room : turn .length + length (partsUnder (asked && b) t r') < 2 ^ 64
     answer-room = omega (arith, fits)
@@ -83,7 +83,7 @@ module _ (t r line bytes : List ℕ) (cycles number k : ℕ) (x : Line) (asked b
           rw (sym (h .line-is))
           (record {
             text = z .text ++ partsUnder (asked && isCall x) t r';
-            tells = record { answer = z .text; told = told; text-is = refl };
+            reports = record { answer = z .text; reported = reported; text-is = refl };
             written = written-append (z .text) (partsUnder (asked && isCall x) t r') out mid out' 0 (turn .length) (turn' .length) (z .written) (rw b-is at (u .written));
             cycles-are = u .cycles-are ∙ z .cycles-are ∙ rw k-is (cycles-carried bytes (bytesOf line) t r cycles x (h .carried));
             ends-is = u .ends-is ∙ z .ends-is;

@@ -10,8 +10,8 @@ use Rattle.desk_calls.specs.declared.Line.{Line}
 use Rattle.desk_calls.specs.declared.Line.the-variants.{Passed, Begin, Offer, OfferInto, Settle, NotACall}
 use Rattle.desk_calls.specs.Lines.{lineOf, bytesOf}
 use Rattle.desk_calls.proofs.Room.{room, begin-number, settle-number, estimate-stored}
-use Rattle.desk_dispatch.specs.Making.{Told, cyclesAt}
-use Rattle.desk_rehearsal.specs.Rehearsal.{maxLine, heard, estimateLength, Carried, Hearing}
+use Rattle.desk_dispatch.specs.Making.{LineReported, cyclesAt}
+use Rattle.desk_rehearsal.specs.Rehearsal.{maxLine, parsedLine, estimateLength, Carried, LineParsed}
 
 -- a line and the buffer that it is read into
 module _ (l bytes : List ℕ) (n : ℕ) (bytes-are : bytes ≡ sets (replicate n 0) 0 (bytesOf l)) (fits : length l ≤ n) where
@@ -34,13 +34,13 @@ module _ (l bytes : List ℕ) (n : ℕ) (bytes-are : bytes ≡ sets (replicate n
 
 -- what is read of a line that is too long, and of any other
 module _ (l bytes : List ℕ) where
-  pub heard-long : maxLine < length l → Hearing l bytes NotACall
-  unfolding heard
-  heard-long h = record { line-is = rw (lt-leb (length l) maxLine h); carried = tt }
+  pub parsed-long : maxLine < length l → LineParsed l bytes NotACall
+  unfolding parsedLine
+  parsed-long h = record { line-is = rw (lt-leb (length l) maxLine h); carried = tt }
 
-  pub heard-short : (x : Line) (bytes' : List ℕ) → bytes ≡ replicate maxLine 0 → length l ≤ maxLine → x ≡ lineOf l → bytes' ≡ sets bytes 0 (bytesOf l) → Hearing l bytes' x
-  unfolding heard
-  heard-short x bytes' zeros h e s = record { line-is = rw (le-leb (length l) maxLine h) e; carried = rw e (line-carried l bytes' maxLine (rw zeros at s) h) }
+  pub parsed-short : (x : Line) (bytes' : List ℕ) → bytes ≡ replicate maxLine 0 → length l ≤ maxLine → x ≡ lineOf l → bytes' ≡ sets bytes 0 (bytesOf l) → LineParsed l bytes' x
+  unfolding parsedLine
+  parsed-short x bytes' zeros h e s = record { line-is = rw (le-leb (length l) maxLine h) e; carried = rw e (line-carried l bytes' maxLine (rw zeros at s) h) }
 
 -- so many bytes are there, and they are the estimate
 module _ (bytes est : List ℕ) where
@@ -53,13 +53,13 @@ module _ (bytes est : List ℕ) where
   carried-fits NotACall h = omega arith
 
   module _ (t r : List ℕ) (n : ℕ) where
-    pub told-carried : (r' text : List ℕ) (x : Line) → Carried x bytes est → Told t r n x (take (estimateLength x) bytes) r' text → Told t r n x est r' text
-    told-carried r' text Passed h told = told
-    told-carried r' text (Begin k) h told = rw (h .1) at told
-    told-carried r' text (Offer time) h told = told
-    told-carried r' text (OfferInto time room) h told = told
-    told-carried r' text (Settle k) h told = rw (h .1) at told
-    told-carried r' text NotACall h told = told
+    pub reported-carried : (r' text : List ℕ) (x : Line) → Carried x bytes est → LineReported t r n x (take (estimateLength x) bytes) r' text → LineReported t r n x est r' text
+    reported-carried r' text Passed h reported = reported
+    reported-carried r' text (Begin k) h reported = rw (h .1) at reported
+    reported-carried r' text (Offer time) h reported = reported
+    reported-carried r' text (OfferInto time room) h reported = reported
+    reported-carried r' text (Settle k) h reported = rw (h .1) at reported
+    reported-carried r' text NotACall h reported = reported
 
     pub cycles-carried : (x : Line) → Carried x bytes est → cyclesAt t r x (take (estimateLength x) bytes) n ≡ cyclesAt t r x est n
     cycles-carried Passed h = refl
@@ -69,5 +69,5 @@ module _ (bytes est : List ℕ) where
     cycles-carried (Settle k) h = rw (h .1)
     cycles-carried NotACall h = refl
 
-pub hearing-fits : (line bytes : List ℕ) (x : Line) (k : ℕ) → Hearing line bytes x → k ≡ estimateLength x → k ≤ length bytes
+pub hearing-fits : (line bytes : List ℕ) (x : Line) (k : ℕ) → LineParsed line bytes x → k ≡ estimateLength x → k ≤ length bytes
 hearing-fits line bytes x k h e = omega (arith, carried-fits bytes (bytesOf line) x (h .carried))

@@ -13,7 +13,7 @@ use Rattle.base.proofs.Lists.{cond-map}
 use Rattle.meaning.specs.Program.{variables}
 use Rattle.meaning.specs.Record.{phaseOf, finished}
 use Rattle.meaning.specs.Cycle.{beginRefusal, begunInto, offerRefusal, goalsInto, settleRefusal, settledInto}
-use Rattle.agreement.specs.Runs.{Call, offer, settling, refused, goals, running, done, counted, tableReply, tableNext, tableAfter, tableFinishing}
+use Rattle.agreement.specs.Runs.{Call, offer, settling, refused, goals, running, done, settlingCount, tableReply, tableNext, tableAfter, tableFinishing}
 use Rattle.meaning.proofs.Refusals.{offer-tests, offer-refused, settle-tests, settle-refused}
 use Rattle.desk_format.specs.Words.{word, numbered}
 use Rattle.desk_calls.specs.declared.Line.{Line}
@@ -21,8 +21,8 @@ use Rattle.desk_calls.specs.declared.Line.the-variants.{Passed, Begin, Offer, O
 use Rattle.desk_calls.specs.Lines.{bytesOf}
 use Rattle.desk_transcript.specs.Transcript.{finishingText}
 use Rattle.desk_dispatch.specs.Counting.{maxCount, more, begunCycles, settledCycles}
-use Rattle.desk_dispatch.specs.Making.{maxGoals, Told, cyclesAt}
-use Rattle.desk_rehearsal.specs.Rehearsal.{heard}
+use Rattle.desk_dispatch.specs.Making.{maxGoals, LineReported, cyclesAt}
+use Rattle.desk_rehearsal.specs.Rehearsal.{parsedLine}
 
 -- the count after a call, and after a list of calls
 abbrev pub cyclesAfter : List ℕ → List ℕ → ℕ → Call → ℕ
@@ -57,16 +57,16 @@ module _ (t r : List ℕ) (late : eqb (phaseOf r) finished ≡ true) where
       (rw (s .0) (rest .0), rw (s .0, s .1) (rest .1))
 
 -- the count grows by what document 01 counts, as long as it fits
-no-cycle : (n : ℕ) (b : Bool) (k : ℕ) (gs : List ℕ) → n + counted (cond b (goals gs) (refused k)) ≡ n
+no-cycle : (n : ℕ) (b : Bool) (k : ℕ) (gs : List ℕ) → n + settlingCount (cond b (goals gs) (refused k)) ≡ n
 no-cycle n true k gs = omega arith
 no-cycle n false k gs = omega arith
 
-one-cycle : (n : ℕ) (b finishes : Bool) (k : ℕ) → n + counted (cond b (cond finishes done running) (refused k)) ≡ cond b (n + 1) n
+one-cycle : (n : ℕ) (b finishes : Bool) (k : ℕ) → n + settlingCount (cond b (cond finishes done running) (refused k)) ≡ cond b (n + 1) n
 one-cycle n true true k = refl
 one-cycle n true false k = refl
 one-cycle n false finishes k = omega arith
 
-grows : (t r : List ℕ) (n : ℕ) (c : Call) → n < maxCount → cyclesAfter t r n c ≡ n + counted (tableReply t r c)
+grows : (t r : List ℕ) (n : ℕ) (c : Call) → n < maxCount → cyclesAfter t r n c ≡ n + settlingCount (tableReply t r c)
 unfolding settledCycles more
 grows t r n (offer time buffer) h = sym (no-cycle n (eqb (offerRefusal t r time (length buffer)) 0) (offerRefusal t r time (length buffer)) (bytesAt (goalsInto t r time buffer) 0 (variables t)))
 grows t r n (settling est) h = rw (lt-ltb n maxCount h) (sym (one-cycle n (eqb (settleRefusal t r est) 0) (eqb (phaseOf (settledInto t r est)) finished) (settleRefusal t r est)))
@@ -97,8 +97,8 @@ finishing-counted t (c ∷ cs) r n fits =
     Counted = cond (eqb (phaseOf (tableAfter t r (c ∷ cs))) finished) (some (allCycles t r n (c ∷ cs))) none
 
     go : (b : Bool) → eqb (phaseOf r) finished ≡ b
-        → tableFinishing t (tableNext t r c) (n + counted (tableReply t r c)) cs ≡ Counted
-        → cond b (some n) (tableFinishing t (tableNext t r c) (n + counted (tableReply t r c)) cs) ≡ Counted
+        → tableFinishing t (tableNext t r c) (n + settlingCount (tableReply t r c)) cs ≡ Counted
+        → cond b (some n) (tableFinishing t (tableNext t r c) (n + settlingCount (tableReply t r c)) cs) ≡ Counted
     go true late rest =
         let s = all-stay t r late n (c ∷ cs) in
         sym (ap₂ (λ (l : List ℕ) (m : ℕ). cond (eqb (phaseOf l) finished) (some m) none) (s .0) (s .1) ∙ rw late)
@@ -113,27 +113,27 @@ callsIn t (OfferInto time room) est = offer time (replicate (min room maxGoals) 
 callsIn t (Settle k) est = settling est ∷ []
 callsIn t NotACall est = []
 
-abbrev pub begins : Line → Bool
-begins Passed = false
-begins (Begin k) = true
-begins (Offer time) = false
-begins (OfferInto time room) = false
-begins (Settle k) = false
-begins NotACall = false
+abbrev pub isBegin : Line → Bool
+isBegin Passed = false
+isBegin (Begin k) = true
+isBegin (Offer time) = false
+isBegin (OfferInto time room) = false
+isBegin (Settle k) = false
+isBegin NotACall = false
 
 abbrev pub allCalls : List ℕ → List (List ℕ) → List Call
 allCalls t [] = []
-allCalls t (line ∷ lines) = callsIn t (heard line) (bytesOf line) ++ allCalls t lines
+allCalls t (line ∷ lines) = callsIn t (parsedLine line) (bytesOf line) ++ allCalls t lines
 
 -- Lines from number i on, answered one after the other: each is given the record and the count as the one before it left them
 abbrev pub Rehearsed : List ℕ → ℕ → List ℕ → ℕ → List (List ℕ) → List ℕ → ℕ → Type 0
 Rehearsed t i r n [] r' n' = (r' ≡ r) × (n' ≡ n)
 Rehearsed t i r n (line ∷ lines) r' n' =
-    (begins (heard line) ≡ false)
-    × (q : List ℕ) × (text : List ℕ) × Told t r i (heard line) (bytesOf line) q text × Rehearsed t (more i) q (cyclesAt t r (heard line) (bytesOf line) n) lines r' n'
+    (isBegin (parsedLine line) ≡ false)
+    × (q : List ℕ) × (text : List ℕ) × LineReported t r i (parsedLine line) (bytesOf line) q text × Rehearsed t (more i) q (cyclesAt t r (parsedLine line) (bytesOf line) n) lines r' n'
 
 -- a line leaves the record and the count that its calls leave
-line-calls : (t r est r' text : List ℕ) (i n : ℕ) (x : Line) → begins x ≡ false → Told t r i x est r' text
+line-calls : (t r est r' text : List ℕ) (i n : ℕ) (x : Line) → isBegin x ≡ false → LineReported t r i x est r' text
     → (r' ≡ tableAfter t r (callsIn t x est)) × (cyclesAt t r x est n ≡ allCycles t r n (callsIn t x est))
 line-calls t r est r' text i n Passed b h = (h .0, refl)
 line-calls t r est r' text i n (Begin k) b h = absurd (true-not-false b)
@@ -150,10 +150,10 @@ after-append t (c ∷ cs) ds r n = after-append t cs ds (tableNext t r c) (cycle
 lines-calls : (t : List ℕ) (lines : List (List ℕ)) (i : ℕ) (r : List ℕ) (n : ℕ) (r' : List ℕ) (n' : ℕ) → Rehearsed t i r n lines r' n'
     → (r' ≡ tableAfter t r (allCalls t lines)) × (n' ≡ allCycles t r n (allCalls t lines))
 lines-calls t [] i r n r' n' h = h
-lines-calls t (line ∷ lines) i r n r' n' (b, q, text, told, rest) =
-    let one = line-calls t r (bytesOf line) q text i n (heard line) b told in
-    let more-lines = lines-calls t lines (more i) q (cyclesAt t r (heard line) (bytesOf line) n) r' n' rest in
-    let joined = after-append t (callsIn t (heard line) (bytesOf line)) (allCalls t lines) r n in (
+lines-calls t (line ∷ lines) i r n r' n' (b, q, text, reported, rest) =
+    let one = line-calls t r (bytesOf line) q text i n (parsedLine line) b reported in
+    let more-lines = lines-calls t lines (more i) q (cyclesAt t r (parsedLine line) (bytesOf line) n) r' n' rest in
+    let joined = after-append t (callsIn t (parsedLine line) (bytesOf line)) (allCalls t lines) r n in (
       more-lines .0 ∙ ap (λ (l : List ℕ). tableAfter t l (allCalls t lines)) (one .0) ∙ sym (joined .0),
       more-lines .1 ∙ ap₂ (λ (l : List ℕ) (m : ℕ). allCycles t l m (allCalls t lines)) (one .0) (one .1) ∙ sym (joined .1),
     )

@@ -1,4 +1,4 @@
--- Reading the program file: one law for each answer, and what follows for the buffers.
+-- Compiling the program file: one law for each answer, and what follows for the buffers.
 use Prim.Native.Nat.{ℕ, _≤_}
 use native.Mathlib.Omega.{arith}
 use native.Mathlib.Nat.{zero-add}
@@ -17,7 +17,7 @@ use Rattle.meaning.specs.declared.Answer.the-variants.{Done, Refused}
 use Rattle.meaning.specs.Answers.{refusalNumber, answerNumber}
 use Rattle.meaning.specs.Sizes.{lengthOf}
 use Rattle.meaning.specs.Program.{parts}
-use Rattle.meaning.specs.Table.{compiled, readRefusal, readInto}
+use Rattle.meaning.specs.Table.{compiled, compileRefusal, compiledInto}
 use Rattle.meaning.proofs.Answers.{not-refused, is-refused}
 use Rattle.agreement.proofs.Operations.{read-accepted, compiled-length}
 use Rattle.desk_format.specs.Writing.{Written}
@@ -27,18 +27,18 @@ use Rattle.desk_transcript.proofs.Lengths.{refused-fits}
 use Rattle.desk_rehearsal.specs.declared.Opened.{Opened}
 use Rattle.desk_rehearsal.specs.Opening.{openedText, Opening}
 
-module _ (f table table' out : List ℕ) (a : Answer) (a-is : answerNumber a ≡ readRefusal f (length table)) (table-is : table' ≡ readInto f table) where
+module _ (f table table' out : List ℕ) (a : Answer) (a-is : answerNumber a ≡ compileRefusal f (length table)) (table-is : table' ≡ compiledInto f table) where
   pub open-done : (n p : ℕ) → a ≡ Done → p ≡ parts f → n ≡ lengthOf Table p → Opening f table table' out out (record { accepted = true; length = n })
   unfolding openedText
   open-done n p told p-is n-is =
-      let z : readRefusal f (length table) ≡ 0 = not-refused a (readRefusal f (length table)) a-is told in
+      let z : compileRefusal f (length table) ≡ 0 = not-refused a (compileRefusal f (length table)) a-is told in
       record { accepted-is = rw z; table-is = table-is; text-is = rw z; length-is = rw z (n-is ∙ ap (lengthOf Table) p-is) }
 
   pub open-refused : (r : Refusal) (out' : List ℕ) (n : ℕ) → a ≡ Refused r → Written (refusedText (refusalNumber r)) out 0 out' n → Opening f table table' out out' (record { accepted = false; length = n })
   unfolding openedText
   open-refused r out' n told w =
-      let number : refusalNumber r ≡ readRefusal f (length table) = ap answerNumber (sym told) ∙ a-is in
-      let no : eqb (readRefusal f (length table)) 0 ≡ false = ne-eqb (readRefusal f (length table)) 0 (is-refused a r (readRefusal f (length table)) a-is told) in
+      let number : refusalNumber r ≡ compileRefusal f (length table) = ap answerNumber (sym told) ∙ a-is in
+      let no : eqb (compileRefusal f (length table)) 0 ≡ false = ne-eqb (compileRefusal f (length table)) 0 (is-refused a r (compileRefusal f (length table)) a-is told) in
       record {
         accepted-is = sym no;
         table-is = table-is;
@@ -49,14 +49,14 @@ module _ (f table table' out : List ℕ) (a : Answer) (a-is : answerNumber a ≡
 -- An accepted file's table lies within the buffer: it is the table of the file, and nothing else
 module _ (f table table' out out' : List ℕ) (o : Opened) (h : Opening f table table' out out' o) where
   module _ (e : o .accepted ≡ true) where
-    accepted-zero : readRefusal f (length table) ≡ 0
-    accepted-zero = eqb-true (readRefusal f (length table)) 0 (sym (h .accepted-is) ∙ e)
+    accepted-zero : compileRefusal f (length table) ≡ 0
+    accepted-zero = eqb-true (compileRefusal f (length table)) 0 (sym (h .accepted-is) ∙ e)
 
     table-length : o .length ≡ lengthOf Table (parts f)
     table-length = h .length-is ∙ rw accepted-zero
 
     written-table : table' ≡ sets table 0 (compiled File f)
-    unfolding readInto
+    unfolding compiledInto
     written-table = h .table-is ∙ rw accepted-zero
 
     pub opened-fits : o .length ≤ length table'
@@ -73,6 +73,6 @@ module _ (f table table' out out' : List ℕ) (o : Opened) (h : Opening f table 
   pub refusal-fits : o .accepted ≡ false → o .length ≤ maxAnswer
   unfolding openedText
   refusal-fits e =
-      let z : eqb (readRefusal f (length table)) 0 ≡ false = sym (h .accepted-is) ∙ e in
-      let n : o .length ≡ length (refusedText (readRefusal f (length table))) = h .length-is ∙ rw z in
-      omega (arith, refused-fits [] [] (readRefusal f (length table)) (omega arith))
+      let z : eqb (compileRefusal f (length table)) 0 ≡ false = sym (h .accepted-is) ∙ e in
+      let n : o .length ≡ length (refusedText (compileRefusal f (length table))) = h .length-is ∙ rw z in
+      omega (arith, refused-fits [] [] (compileRefusal f (length table)) (omega arith))

@@ -11,14 +11,14 @@ use Rattle.desk_calls.specs.declared.Line.the-variants.{Passed, Begin, Offer, O
 use Rattle.desk_calls.specs.Lines.{lineOf, bytesOf}
 use Rattle.desk_transcript.specs.Transcript.{partsText}
 use Rattle.desk_dispatch.specs.declared.Turn.{Turn}
-use Rattle.desk_dispatch.specs.Making.{Told, cyclesAt, endsRun, Turned}
+use Rattle.desk_dispatch.specs.Making.{LineReported, cyclesAt, endsRun, Turned}
 
 -- A longer line is no call
 abbrev pub maxLine : ℕ
 maxLine = 4095
 
-unfoldable pub heard : List ℕ → Line
-heard line = cond (leb (length line) maxLine) (lineOf line) NotACall
+unfoldable pub parsedLine : List ℕ → Line
+parsedLine line = cond (leb (length line) maxLine) (lineOf line) NotACall
 
 -- Whether a line asks for a call, under whose answer the marked parts may stand
 abbrev pub isCall : Line → Bool
@@ -35,13 +35,13 @@ partsUnder asked t r = cond asked (partsText t r) []
 -- the text of a line and, where parts are asked for, the line of the marked parts under it
 pub record WithParts (t r : List ℕ) (number : ℕ) (line : Line) (est : List ℕ) (asked : Bool) (r' text : List ℕ) : Type 0 where
   pub answer : List ℕ
-  pub told : Told t r number line est r' answer
+  pub reported : LineReported t r number line est r' answer
   pub text-is : text ≡ answer ++ partsUnder (asked && isCall line) t r'
 
 -- A line, and what is written when it is answered
 abbrev pub Answered : List ℕ → List ℕ → ℕ → ℕ → Bool → List ℕ → List ℕ → List ℕ → List ℕ → Turn → Type 0
 Answered t r cycles number asked line r' out out' turn =
-    Turned (WithParts t r number (heard line) (bytesOf line) asked r') (cyclesAt t r (heard line) (bytesOf line) cycles) (endsRun (heard line)) out out' turn
+    Turned (WithParts t r number (parsedLine line) (bytesOf line) asked r') (cyclesAt t r (parsedLine line) (bytesOf line) cycles) (endsRun (parsedLine line)) out out' turn
 
 -- The number of bytes of a line's estimate, and that they stand at the beginning of a buffer
 abbrev pub estimateLength : Line → ℕ
@@ -61,8 +61,8 @@ Carried (Settle n) bytes est = (n ≤ length bytes) × (take n bytes ≡ est)
 Carried NotACall bytes est = Unit {0}
 
 -- A line that was read: what it says, with its estimate at the beginning of a buffer
-pub record Hearing (line bytes : List ℕ) (x : Line) : Type 0 where
-  pub line-is : x ≡ heard line
+pub record LineParsed (line bytes : List ℕ) (x : Line) : Type 0 where
+  pub line-is : x ≡ parsedLine line
   pub carried : Carried x bytes (bytesOf line)
 
 -- The marked parts, written after the text of a turn where they are asked for

@@ -1,12 +1,12 @@
 // One line of a rehearsal: it is read, its call is made, and the answer is written.
-pub mod hearing;
 pub mod opening;
+pub mod parsing;
 
-use crate::hearing::estimate_length;
-use crate::hearing::hear;
-use crate::hearing::is_call;
+use crate::parsing::estimate_length;
+use crate::parsing::is_call;
+use crate::parsing::parse_line;
 use desk_dispatch::Turn;
-use desk_dispatch::making::make;
+use desk_dispatch::making::make_call;
 use desk_transcript::parts::write_parts;
 use desk_transcript::summary::write_summary;
 ghost use Prim.Native.Nat.{_+_, _≤_, _<_, _^_};
@@ -56,9 +56,9 @@ pub fn answer_line(
     ensures { λ x. ⌜ x .length ≤ maxAnswer ⌝ }
 {
     let mut bytes = [0u8; MAX_LINE];
-    let x = hear(line, &mut bytes);
+    let x = parse_line(line, &mut bytes);
     let n = estimate_length(x);
-    let turn = make(t, r, cycles, number, x, &bytes[..n], out);
+    let turn = make_call(t, r, cycles, number, x, &bytes[..n], out);
     add_parts(t, r, asked & is_call(x), turn, out)
 }
 

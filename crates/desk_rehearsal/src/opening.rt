@@ -4,8 +4,8 @@ use desk_answers::write_refused;
 use meaning::Answer;
 use meaning::Form;
 use program_compile::compile;
-use program_part::held::length_of;
-use program_part::held::parts;
+use program_part::layout::length_of;
+use program_part::layout::parts;
 ghost use Rattle.desk_rehearsal.specs.Opening.{Opening};
 
 // Writes the table of a program file, or the text that says why the file is refused.

@@ -24,8 +24,8 @@ use Rattle.desk_transcript.proofs.Marked.{parts-pieces}
 use Rattle.desk_transcript.proofs.Summing.{estimate-pieces, clock-pieces, state-pieces, summary-pieces}
 
 -- The line of a fault
-pub line-fits : (n : ℕ) → length (lineText n) ≤ maxAnswer
-line-fits n = omega (arith, three-length (line-pieces n), decimal-few n)
+pub line-text-fits : (n : ℕ) → length (lineText n) ≤ maxAnswer
+line-text-fits n = omega (arith, three-length (line-pieces n), decimal-few n)
 
 -- The marked parts
 part-fits : (t r : List ℕ) (p : ℕ) → length (partText t r p) ≤ 1 + maxDigits
@@ -41,14 +41,14 @@ module _ (t r : List ℕ) (n : ℕ) (few : parts t < numberLimit) where
   pub refused-fits : length (refusedText n) + length (partsText t r) ≤ maxAnswer
   refused-fits = omega (arith, refused-short n, parts-fit t r)
 
-  pub begun-fits : length (begunText n) + length (partsText t r) ≤ maxAnswer
-  begun-fits = omega (arith, begun-short n, parts-fit t r)
+  pub begun-text-fits : length (begunText n) + length (partsText t r) ≤ maxAnswer
+  begun-text-fits = omega (arith, begun-short n, parts-fit t r)
 
-  pub settled-fits : length (settledText n) + length (partsText t r) ≤ maxAnswer
-  settled-fits = omega (arith, settled-short n, parts-fit t r)
+  pub settled-text-fits : length (settledText n) + length (partsText t r) ≤ maxAnswer
+  settled-text-fits = omega (arith, settled-short n, parts-fit t r)
 
-  pub offered-fits : (goals : List ℕ) → length goals < byteValues → length (offeredText n goals) + length (partsText t r) ≤ maxAnswer
-  offered-fits goals l = omega (arith, offered-long n goals, parts-fit t r)
+  pub offered-text-fits : (goals : List ℕ) → length goals < byteValues → length (offeredText n goals) + length (partsText t r) ≤ maxAnswer
+  offered-text-fits goals l = omega (arith, offered-long n goals, parts-fit t r)
 
 -- The summary
 start-fits : (t r : List ℕ) (c : ℕ) → length (startText t r c) ≤ 1 + maxDigits + 1

@@ -3,7 +3,7 @@ use crate::fields::is_marked;
 use desk_format::decimal::write_number;
 use desk_format::words::write_word;
 use meaning::Number;
-use program_part::held::parts;
+use program_part::layout::parts;
 ghost use Prim.Native.Nat.{_+_, _<_, _^_};
 ghost use lib.ListN.{length};
 ghost use Rattle.meaning.specs.Program.{parts};

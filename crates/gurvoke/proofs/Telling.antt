@@ -4,5 +4,5 @@ use mathlib.Core.Path.{_≡_}
 use mathlib.Core.List.{List}
 use Rattle.meaning.specs.Operations.{Offered}
 
-pub offer-told : (t r : List ℕ) (time : ℕ) (goals : List ℕ) (n a : ℕ) (r' goals' : List ℕ) → n ≡ a → Offered t r time goals a r' goals' → Offered t r time goals n r' goals'
-offer-told t r time goals n a r' goals' e o = rw e o
+pub offer-numbered : (t r : List ℕ) (time : ℕ) (goals : List ℕ) (n a : ℕ) (r' goals' : List ℕ) → n ≡ a → Offered t r time goals a r' goals' → Offered t r time goals n r' goals'
+offer-numbered t r time goals n a r' goals' e o = rw e o

@@ -10,41 +10,41 @@ use run_offer::offer;
 use run_settle::settle;
 ghost use mathlib.Core.Path.{_≡_};
 ghost use lib.ListN.{length};
-ghost use Rattle.meaning.specs.Table.{writeRefusal, writtenInto};
-ghost use Rattle.meaning.specs.Operations.{Read, Begun, Offered, Settled};
+ghost use Rattle.meaning.specs.Table.{decompileRefusal, decompiledInto};
+ghost use Rattle.meaning.specs.Operations.{Compiled, Begun, Offered, Settled};
 
 #[no_mangle]
 pub extern "C" fn gurvoke_compile(file: &[u8], table: &mut [u8]) -> u32
-    ensures { λ a. ⌜ Read (now (file .entry)) (now (table .entry)) a (now (table .exit)) ⌝ }
+    ensures { λ a. ⌜ Compiled (now (file .entry)) (now (table .entry)) a (now (table .exit)) ⌝ }
 {
     answer_number(compile(file, table))
 }
 
 #[no_mangle]
 pub extern "C" fn gurvoke_decompile(table: &[u8], file: &mut [u8]) -> u32
-    ensures { λ r. ⌜ r ≡ writeRefusal (now (table .entry)) (length (now (file .entry))) ⌝ }
-    ensures { λ _. ⌜ now (file .exit) ≡ writtenInto (now (table .entry)) (now (file .entry)) ⌝ }
+    ensures { λ r. ⌜ r ≡ decompileRefusal (now (table .entry)) (length (now (file .entry))) ⌝ }
+    ensures { λ _. ⌜ now (file .exit) ≡ decompiledInto (now (table .entry)) (now (file .entry)) ⌝ }
 {
     answer_number(decompile(table, file))
 }
 
 #[no_mangle]
-pub extern "C" fn gurvoke_begin(table: &[u8], estimate: &[u8], run: &mut [u8]) -> u32
-    ensures { λ a. ⌜ Begun (now (table .entry)) (now (estimate .entry)) (now (run .entry)) a (now (run .exit)) ⌝ }
+pub extern "C" fn gurvoke_begin(table: &[u8], estimate: &[u8], record: &mut [u8]) -> u32
+    ensures { λ a. ⌜ Begun (now (table .entry)) (now (estimate .entry)) (now («record» .entry)) a (now («record» .exit)) ⌝ }
 {
-    answer_number(begin(table, estimate, run))
+    answer_number(begin(table, estimate, record))
 }
 
 #[no_mangle]
-pub extern "C" fn gurvoke_offer(table: &[u8], run: &mut [u8], time: u32, goals: &mut [u8]) -> u32
-    ensures { λ a. ⌜ Offered (now (table .entry)) (now (run .entry)) time (now (goals .entry)) a (now (run .exit)) (now (goals .exit)) ⌝ }
+pub extern "C" fn gurvoke_offer(table: &[u8], record: &mut [u8], time: u32, goals: &mut [u8]) -> u32
+    ensures { λ a. ⌜ Offered (now (table .entry)) (now («record» .entry)) time (now (goals .entry)) a (now («record» .exit)) (now (goals .exit)) ⌝ }
 {
-    offer_number(offer(table, run, time, goals))
+    offer_number(offer(table, record, time, goals))
 }
 
 #[no_mangle]
-pub extern "C" fn gurvoke_settle(table: &[u8], run: &mut [u8], estimate: &[u8]) -> u32
-    ensures { λ a. ⌜ Settled (now (table .entry)) (now (run .entry)) (now (estimate .entry)) a (now (run .exit)) ⌝ }
+pub extern "C" fn gurvoke_settle(table: &[u8], record: &mut [u8], estimate: &[u8]) -> u32
+    ensures { λ a. ⌜ Settled (now (table .entry)) (now («record» .entry)) (now (estimate .entry)) a (now («record» .exit)) ⌝ }
 {
-    settle_number(settle(table, run, estimate))
+    settle_number(settle(table, record, estimate))
 }

@@ -14,14 +14,14 @@ use desk_output::print_message;
 use libc::STDIN_FILENO;
 use meaning::sizes::MAX_FILE;
 ghost use lib.ListN.{length};
-ghost use Rattle.desk_input.specs.Reading.{Within};
+ghost use Rattle.desk_input.specs.Reading.{FitsBuffer};
 
 // The place of the argument that names the program file.
 const NAME: usize = 1;
 
 // Prints the listing of the program file that was read into `file`.
 fn print_listing(piece: Piece, file: &[u8])
-    requires { ⌜ Within piece (length (now file)) ⌝ }
+    requires { ⌜ FitsBuffer piece (length (now file)) ⌝ }
 {
     let Piece::Held(n) = piece else {
         return;

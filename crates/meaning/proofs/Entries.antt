@@ -14,25 +14,25 @@ use Rattle.meaning.specs.declared.Entry.{Entry}
 use Rattle.meaning.specs.declared.Form.the-variants.{Table}
 use Rattle.meaning.specs.Sizes.{maxValue}
 use Rattle.meaning.specs.Kinds.{GOAL, START, kindOf, numberOf, value, testOf, testAllowed, conditionAllowed, goalAllowed, startAllowed, operandAllowed}
-use Rattle.meaning.specs.Program.{parts, variables, clocks, entryAt, entries, allowedEntry}
+use Rattle.meaning.specs.Program.{parts, variables, clocks, entryAt, entries, entryAllowed}
 use Rattle.meaning.specs.Table.{isTable}
 use Rattle.meaning.specs.Cycle.{isKind, valuesFor, goalByte, goalBytes}
 use Rattle.meaning.proofs.Tables.{table-held}
 
 -- each entry of a table is allowed
-pub entry-allowed : (t : List ℕ) → isTable t ≡ true → (p : ℕ) → p < parts t → allowedEntry (variables t) (clocks t) (entryAt Table t p) ≡ true
+pub entry-allowed : (t : List ℕ) → isTable t ≡ true → (p : ℕ) → p < parts t → entryAllowed (variables t) (clocks t) (entryAt Table t p) ≡ true
 unfolding entries
 entry-allowed t h p l =
     let (q, held, e) = table-held t h in
-    rw zero-add at (each-tabulated (entryAt Table t) (allowedEntry (variables t) (clocks t)) 0 (parts t) (rw (held .entries-are) (held .within .entries-allowed)) p l)
+    rw zero-add at (each-tabulated (entryAt Table t) (entryAllowed (variables t) (clocks t)) 0 (parts t) (rw (held .entries-are) (held .within .entries-allowed)) p l)
 
 -- so is what is read as the entry of a part
-pub read-allowed : (t : List ℕ) (p : ℕ) (e : Entry) → isTable t ≡ true → p < parts t → e ≡ entryAt Table t p → allowedEntry (variables t) (clocks t) e ≡ true
+pub read-allowed : (t : List ℕ) (p : ℕ) (e : Entry) → isTable t ≡ true → p < parts t → e ≡ entryAt Table t p → entryAllowed (variables t) (clocks t) e ≡ true
 read-allowed t p e table here e-is = rw e-is (entry-allowed t table p here)
 
 -- an allowed GOAL names a variable of the program and a value of at most 250, so that no goal byte is taken for another
-pub goal-fits : (v k : ℕ) (e : Entry) → allowedEntry v k e ≡ true → isKind GOAL e ≡ true → (e .operand .b1 < v) × (value (e .operand) ≤ maxValue)
-unfolding allowedEntry operandAllowed goalAllowed kindOf numberOf
+pub goal-fits : (v k : ℕ) (e : Entry) → entryAllowed v k e ≡ true → isKind GOAL e ≡ true → (e .operand .b1 < v) × (value (e .operand) ≤ maxValue)
+unfolding entryAllowed operandAllowed goalAllowed kindOf numberOf
 goal-fits v k e a g =
     let is-goal : e .kind ≡ 1 = eqb-true (e .kind) 1 g in
     let allowed : (eqb (e .operand .b0) 0 && (ltb (e .operand .b1) v && leb (value (e .operand)) maxValue)) ≡ true = rw is-goal at a in
@@ -40,16 +40,16 @@ goal-fits v k e a g =
     (ltb-true (e .operand .b1) v (and-left (ltb (e .operand .b1) v) (leb (value (e .operand)) maxValue) named), leb-true (value (e .operand)) maxValue (and-right (ltb (e .operand .b1) v) (leb (value (e .operand)) maxValue) named))
 
 -- an allowed START names a clock of the program
-pub start-fits : (v k : ℕ) (e : Entry) → allowedEntry v k e ≡ true → isKind START e ≡ true → e .operand .b1 < k
-unfolding allowedEntry operandAllowed startAllowed kindOf numberOf
+pub start-fits : (v k : ℕ) (e : Entry) → entryAllowed v k e ≡ true → isKind START e ≡ true → e .operand .b1 < k
+unfolding entryAllowed operandAllowed startAllowed kindOf numberOf
 start-fits v k e a s =
     let is-start : e .kind ≡ 2 = eqb-true (e .kind) 2 s in
     let named = and-right (eqb (e .operand .b0) 0) (ltb (e .operand .b1) k && eqb (value (e .operand)) 0) (rw is-start at a) in
     ltb-true (e .operand .b1) k (and-left (ltb (e .operand .b1) k) (eqb (value (e .operand)) 0) named)
 
 -- an allowed WAIT, MAINTAIN or CHOICE has an allowed condition
-pub condition-fits : (v k : ℕ) (e : Entry) → allowedEntry v k e ≡ true → (e .kind ≡ 3) ⊎ ((e .kind ≡ 6) ⊎ (e .kind ≡ 7)) → conditionAllowed v k (e .operand) ≡ true
-unfolding allowedEntry operandAllowed kindOf
+pub condition-fits : (v k : ℕ) (e : Entry) → entryAllowed v k e ≡ true → (e .kind ≡ 3) ⊎ ((e .kind ≡ 6) ⊎ (e .kind ≡ 7)) → conditionAllowed v k (e .operand) ≡ true
+unfolding entryAllowed operandAllowed kindOf
 condition-fits v k e a (inl h) = rw h at a
 condition-fits v k e a (inr (inl h)) = rw h at a
 condition-fits v k e a (inr (inr h)) = rw h at a

@@ -11,24 +11,24 @@ use Rattle.meaning.specs.declared.Outcome.{Outcome}
 use Rattle.meaning.specs.declared.Outcome.the-variants.{Satisfied, Violated, Open}
 use Rattle.meaning.specs.Kinds.{kindOf, numberOf, known, arity, testOf, testAllowed, conditionAllowed, goalAllowed, startAllowed, countAllowed, emptyAllowed, operandAllowed}
 use Rattle.meaning.specs.Tree.{fold, depth, size}
-use Rattle.meaning.specs.Program.{sizesAllowed, entries, preorder, knownEntry, allowedEntry, arityOf, make, place, trees, treeOf, programRefusal}
+use Rattle.meaning.specs.Program.{sizesAllowed, entries, preorder, entryKnown, entryAllowed, arityOf, makePart, takeChildren, trees, treeOf, programRefusal}
 use Rattle.meaning.specs.Conditions.{Situation, outcome}
-use Rattle.meaning.specs.Table.{nextOf, block, tableOf, compiled, readRefusal}
+use Rattle.meaning.specs.Table.{nextOf, block, tableOf, compiled, compileRefusal}
 
 -- n REPEATs above a GOAL 0=1, one variable and no clock
 repeats : ℕ → List ℕ
 repeats n = suc n ∷ 1 ∷ 0 ∷ (replicate n 8 ++ (1 ∷ replicate n 0 ++ (replicate n 0 ++ (replicate n 0 ++ (replicate n 0 ++ (0 ∷ 0 ∷ 1 ∷ 0 ∷ []))))))
 
-pub record Read : Type 0 where
+pub record CompileExample : Type 0 where
   pub file : List ℕ
   pub room : ℕ
   pub refusal : ℕ
 
-agrees : Read → Bool
-agrees x = eqb (readRefusal (x .file) (x .room)) (x .refusal)
+agrees : CompileExample → Bool
+agrees x = eqb (compileRefusal (x .file) (x .room)) (x .refusal)
 
-reads : List Read
-reads =
+compileExamples : List CompileExample
+compileExamples =
     record { file = []; room = 2000; refusal = 1 }
     ∷ record { file = 0x00 ∷ 0x01 ∷ 0x00 ∷ []; room = 2000; refusal = 2 }
     ∷ record { file = 0x01 ∷ 0x01 ∷ 0x00 ∷ 0x01 ∷ []; room = 2000; refusal = 3 }
@@ -40,8 +40,8 @@ reads =
     ∷ record { file = repeats 0; room = 10; refusal = 8 }
     ∷ []
 
-examples : all agrees reads ≡ true
-unfolding reads agrees repeats kindOf numberOf known arity testOf testAllowed conditionAllowed goalAllowed startAllowed countAllowed emptyAllowed operandAllowed fold depth size sizesAllowed entries preorder knownEntry allowedEntry arityOf make place trees treeOf programRefusal readRefusal
+examples : all agrees compileExamples ≡ true
+unfolding compileExamples agrees repeats kindOf numberOf known arity testOf testAllowed conditionAllowed goalAllowed startAllowed countAllowed emptyAllowed operandAllowed fold depth size sizesAllowed entries preorder entryKnown entryAllowed arityOf makePart takeChildren trees treeOf programRefusal compileRefusal
 examples = refl
 
 file10 : List ℕ
@@ -51,7 +51,7 @@ table10 : List ℕ
 table10 = 3 ∷ 1 ∷ 1 ∷ 4 ∷ 3 ∷ 255 ∷ 255 ∷ 2 ∷ 0 ∷ 0 ∷ 0 ∷ 2 ∷ 2 ∷ 0 ∷ 2 ∷ 0 ∷ 0 ∷ 0 ∷ 0 ∷ 3 ∷ 3 ∷ 0 ∷ 255 ∷ 3 ∷ 0 ∷ 10 ∷ 0 ∷ []
 
 station10 : compiled File file10 ≡ table10
-unfolding file10 table10 kindOf numberOf known arity fold depth size entries preorder arityOf make place trees treeOf nextOf block tableOf compiled
+unfolding file10 table10 kindOf numberOf known arity fold depth size entries preorder arityOf makePart takeChildren trees treeOf nextOf block tableOf compiled
 station10 = refl
 
 -- Conditions at their bounds, by an estimate of 1, a clock that reads 5, and one that is not started

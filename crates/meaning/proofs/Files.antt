@@ -19,7 +19,7 @@ use Rattle.meaning.specs.declared.Form.{Form}
 use Rattle.meaning.specs.declared.Form.the-variants.{File, Table}
 use Rattle.meaning.specs.Sizes.{maxParts, maxVariables, maxClocks, maxDepth, headerLength, operandLength, lengthOf, operandPlace, noPart, numberBytes, numberAt, bytesAt}
 use Rattle.meaning.specs.Tree.{Part, kind, children, depth, size}
-use Rattle.meaning.specs.Program.{parts, variables, clocks, sizeBytes, sizesAllowed, entryAt, entries, preorder, knownEntry, allowedEntry, follow, trees, single, treeOf, isTree, programTests, programRefusal, Within, kindByte, entryOperand, arrays, fileOf}
+use Rattle.meaning.specs.Program.{parts, variables, clocks, sizeBytes, sizesAllowed, entryAt, entries, preorder, entryKnown, entryAllowed, follow, trees, single, treeOf, isTree, programTests, programRefusal, Within, kindByte, entryOperand, arrays, fileOf}
 use Rattle.meaning.proofs.Trees.{All, part-ind, size-law, preorder-law, entryOf, length-preorder}
 use Rattle.meaning.proofs.Parsing.{kind-number, known-kind, trees-alone, trees-are}
 
@@ -66,7 +66,7 @@ module _ (form : Form) (s : List ℕ) where
       (leb-true 1 (parts s) (a .0), leb-true (parts s) maxParts (b .0), leb-true 1 (variables s) (c .0), leb-true (variables s) maxVariables (d .0), leb-true (clocks s) maxClocks (d .1))
 
   -- the entries of bytes that are read as a tree are that tree's
-  tree-entries : (p : Part) → treeOf form s ≡ some p → all knownEntry (entries form s) ≡ true → all (allowedEntry (variables s) (clocks s)) (entries form s) ≡ true → entries form s ≡ preorder p
+  tree-entries : (p : Part) → treeOf form s ≡ some p → all entryKnown (entries form s) ≡ true → all (entryAllowed (variables s) (clocks s)) (entries form s) ≡ true → entries form s ≡ preorder p
   unfolding treeOf
   tree-entries p t k a = rw append-nil at (trees-are (variables s) (clocks s) (entries form s) (p ∷ []) (single-part (trees (entries form s)) p t) k a)
 
@@ -105,8 +105,8 @@ module _ (t : Entry → Bool) (each : (p : Part) → t (entryOf p) ≡ true) whe
   all-preorder = part-ind (λ p. all t (preorder p) ≡ true) (λ p h. rw (preorder-law p, each p) (all-children (children p) h))
 
 -- a part's entry is of a known kind
-known-entry : (p : Part) → knownEntry (entryOf p) ≡ true
-unfolding knownEntry
+known-entry : (p : Part) → entryKnown (entryOf p) ≡ true
+unfolding entryKnown
 known-entry p = rw (kind-number p) (known-kind p)
 
 header-fits : (form : Form) (n : ℕ) → headerLength ≤ lengthOf form n
@@ -141,7 +141,7 @@ module _ (form : Form) (s : List ℕ) (p : Part) (h : Holds form s p) where
           (
             eq-eqb (length s) (lengthOf form (parts s)) (h .length-is),
             (
-              rw (h .entries-are) (all-preorder knownEntry known-entry p),
+              rw (h .entries-are) (all-preorder entryKnown known-entry p),
               (
                 rw (h .entries-are) (h .within .entries-allowed),
                 (
@@ -166,9 +166,9 @@ module _ (form : Form) (s : List ℕ) (d : Entry) where
       rw (first, entries-from es (suc p) (λ i l. rw (suc-add, ← add-suc) (at (suc i) (omega arith))))
 
   -- entries that stand one by one where a form has them are its entries
-  pub entries-at : (es : List Entry) → parts s ≡ length es → ((i : ℕ) → i < length es → entryAt form s i ≡ getD es i d) → entries form s ≡ es
+  pub entries-are : (es : List Entry) → parts s ≡ length es → ((i : ℕ) → i < length es → entryAt form s i ≡ getD es i d) → entries form s ≡ es
   unfolding entries
-  entries-at es n at = rw n (entries-from es 0 (λ i l. rw zero-add (at i l)))
+  entries-are es n at = rw n (entries-from es 0 (λ i l. rw zero-add (at i l)))
 
 -- sizes and arrays
 module _ (h : List ℕ) (es : List Entry) (d : Entry) (l : length h ≡ headerLength) (n : parts (h ++ arrays es) ≡ length es) where
@@ -200,7 +200,7 @@ module _ (h : List ℕ) (es : List Entry) (d : Entry) (l : length h ≡ headerLe
 
   -- the entries of sizes and arrays are those that the arrays are made of
   pub file-entries : entries File (h ++ arrays es) ≡ es
-  file-entries = entries-at File (h ++ arrays es) d es n file-entry
+  file-entries = entries-are File (h ++ arrays es) d es n file-entry
 
   length-arrays : length (h ++ arrays es) ≡ lengthOf File (length es)
   length-arrays = rw (length-append, length-append, l, length-pieces kindByte 1 (λ e. refl) es, length-pieces entryOperand operandLength (λ e. refl) es) (omega arith)
@@ -230,7 +230,7 @@ module _ (v k : ℕ) (p : Part) (w : Within v k p) where
         within = w;
       }
 
-  -- each tree within the limits has a file that is accepted, and reading it gives that tree back
+  -- each tree within the limits has a file that is accepted, and that tree is the one that it holds
   pub file-accepted : (programRefusal File (fileOf v k p) ≡ 0) × (treeOf File (fileOf v k p) ≡ some p) × (variables (fileOf v k p) ≡ v) × (clocks (fileOf v k p) ≡ k)
   unfolding fileOf
   file-accepted = (held-accepted File (fileOf v k p) p file-holds, held-tree File (fileOf v k p) p file-holds, refl, refl)

@@ -17,7 +17,7 @@ use Rattle.meaning.specs.Program.{parts, variables, clocks}
 use Rattle.meaning.specs.Table.{endAt, parentAt, nextAt, insideOf, isTable}
 use Rattle.meaning.proofs.Trees.{All, part-ind, size-law, size-inner}
 use Rattle.meaning.proofs.Tables.{table-held, inside as within, root-end}
-use Rattle.meaning.proofs.Lies.{Lies, LieIn, own-row, inside, first-lies, others-lie, root-lies}
+use Rattle.meaning.proofs.Lies.{Lies, LieIn, own-row, children-lie, first-lies, others-lie, root-lies}
 
 -- part p stands inside part q
 abbrev pub Inside : List ℕ → ℕ → ℕ → Type 0
@@ -81,7 +81,7 @@ module _ (t : List ℕ) where
       step : (p : Part) → All Finds (children p) → Finds p
       step p h n q x l m a b =
           let e : endAt t n ≡ suc n + sum (map size (children p)) = omega (arith, own-row l .end-is, size-law p) in
-          rw (own-row l .end-is) at (find-in (children p) h (inside l) (omega arith) e m a (omega (arith, size-law p)))
+          rw (own-row l .end-is) at (find-in (children p) h (children-lie l) (omega arith) e m a (omega (arith, size-law p)))
 
 module _ (t : List ℕ) (table : isTable t ≡ true) where
   -- the root lies in the table, with all parts

@@ -14,8 +14,8 @@ use Rattle.base.proofs.Lists.{and-left, and-right, flat-append}
 use Rattle.meaning.specs.declared.Operand.{Operand}
 use Rattle.meaning.specs.declared.Entry.{Entry}
 use Rattle.meaning.specs.Kinds.{Kind, UNKNOWN, GOAL, START, WAIT, SEQ, PAR, MAINTAIN, CHOICE, REPEAT, kindOf, numberOf, known, arity, value, countAllowed, emptyAllowed, operandAllowed}
-use Rattle.meaning.specs.Tree.{Part, Parts, goal, start, wait, seq, par, maintain, choice, repeat, one, more, listOf, counted, count, kind, children, operand}
-use Rattle.meaning.specs.Program.{preorder, knownEntry, allowedEntry, arityOf, group, ofSome, make, place, follow, trees}
+use Rattle.meaning.specs.Tree.{Part, Parts, goal, start, wait, seq, par, maintain, choice, repeat, one, more, listOf, countOperand, count, kind, children, operand}
+use Rattle.meaning.specs.Program.{preorder, entryKnown, entryAllowed, arityOf, group, ofSome, makePart, takeChildren, follow, trees}
 use Rattle.meaning.proofs.Trees.{All, part-ind, entryOf, preorder-law}
 
 -- the kind byte of a part's kind stands for that kind
@@ -85,8 +85,8 @@ some-list part (one p) = refl
 some-list part (more p ps) = rw (group-list p ps)
 
 -- a part is made of its kind, its operand and its children
-pub make-children : (p : Part) → make (kind p) (operand p) (children p) ≡ some p
-unfolding make
+pub make-children : (p : Part) → makePart (kind p) (operand p) (children p) ≡ some p
+unfolding makePart
 make-children (goal o) = refl
 make-children (start o) = refl
 make-children (wait o) = refl
@@ -97,7 +97,7 @@ make-children (choice o p q) = refl
 make-children (repeat p) = refl
 
 -- an operand with b1, b2 and b3 all 0 is a count
-only-count : (o : Operand) (n : ℕ) → n ≡ o .b0 → (eqb (o .b1) 0 && eqb (value o) 0) ≡ true → counted n ≡ o
+only-count : (o : Operand) (n : ℕ) → n ≡ o .b0 → (eqb (o .b1) 0 && eqb (value o) 0) ≡ true → countOperand n ≡ o
 only-count o n e h =
     let z1 : o .b1 ≡ 0 = eqb-true (o .b1) 0 (and-left (eqb (o .b1) 0) (eqb (value o) 0) h) in
     let zv : value o ≡ 0 = eqb-true (value o) 0 (and-right (eqb (o .b1) 0) (eqb (value o) 0) h) in
@@ -106,25 +106,25 @@ only-count o n e h =
     λ i. record { b0 = e i; b1 = sym z1 i; b2 = sym z2 i; b3 = sym z3 i }
 
 -- the count of children that an allowed SEQ or PAR has
-allowed-count : (o : Operand) (n : ℕ) → n ≡ o .b0 → countAllowed o ≡ true → counted n ≡ o
+allowed-count : (o : Operand) (n : ℕ) → n ≡ o .b0 → countAllowed o ≡ true → countOperand n ≡ o
 unfolding countAllowed
 allowed-count o n e h = only-count o n e (and-right (not (eqb (o .b0) 0)) (eqb (o .b1) 0 && eqb (value o) 0) h)
 
 count-group : (p : Part) (ps : List Part) → count (group p ps) ≡ suc (length ps)
 count-group p ps = rw (count-length, list-group)
 
-allowed-group : (o : Operand) (p : Part) (ps : List Part) → suc (length ps) ≡ o .b0 → countAllowed o ≡ true → counted (count (group p ps)) ≡ o
+allowed-group : (o : Operand) (p : Part) (ps : List Part) → suc (length ps) ≡ o .b0 → countAllowed o ≡ true → countOperand (count (group p ps)) ≡ o
 allowed-group o p ps e h = rw (count-group p ps) (allowed-count o (suc (length ps)) e h)
 
-allowed-empty : (o : Operand) → emptyAllowed o ≡ true → counted 0 ≡ o
+allowed-empty : (o : Operand) → emptyAllowed o ≡ true → countOperand 0 ≡ o
 unfolding emptyAllowed
 allowed-empty o h =
     let z : o .b0 ≡ 0 = eqb-true (o .b0) 0 (and-left (eqb (o .b0) 0) (eqb (o .b1) 0 && eqb (value o) 0) h) in
     only-count o 0 (sym z) (and-right (eqb (o .b0) 0) (eqb (o .b1) 0 && eqb (value o) 0) h)
 
 module _ (v c : ℕ) where
-  made-as : (k : Kind) (o : Operand) (ps : List Part) (p : Part) → make k o ps ≡ some p → (kind p ≡ k) × (children p ≡ ps) × (length ps ≡ arity k o → operandAllowed v c k o ≡ true → operand p ≡ o)
-  unfolding make arity operandAllowed
+  made-as : (k : Kind) (o : Operand) (ps : List Part) (p : Part) → makePart k o ps ≡ some p → (kind p ≡ k) × (children p ≡ ps) × (length ps ≡ arity k o → operandAllowed v c k o ≡ true → operand p ≡ o)
+  unfolding makePart arity operandAllowed
   made-as UNKNOWN o ps p h = (cc, cc, λ l a. cc)
   made-as GOAL o [] p h = (cc, cc, λ l a. cc)
   made-as GOAL o (q ∷ ps) p h = (cc, cc, λ l a. cc)
@@ -148,11 +148,11 @@ module _ (v c : ℕ) where
   made-as REPEAT o (q ∷ r ∷ ps) p h = (cc, cc, λ l a. cc)
 
 -- what is made has the kind and the children that it was made of
-pub made : (k : Kind) (o : Operand) (ps : List Part) (p : Part) → make k o ps ≡ some p → (kind p ≡ k) × (children p ≡ ps)
+pub made : (k : Kind) (o : Operand) (ps : List Part) (p : Part) → makePart k o ps ≡ some p → (kind p ≡ k) × (children p ≡ ps)
 made k o ps p h = let m = made-as 0 0 k o ps p h in (m .0, m .1)
 
 -- what is made with an allowed operand, and as many children as that says, has that operand
-pub made-operand : (v c : ℕ) (k : Kind) (o : Operand) (ps : List Part) (p : Part) → make k o ps ≡ some p → length ps ≡ arity k o → operandAllowed v c k o ≡ true → operand p ≡ o
+pub made-operand : (v c : ℕ) (k : Kind) (o : Operand) (ps : List Part) (p : Part) → makePart k o ps ≡ some p → length ps ≡ arity k o → operandAllowed v c k o ≡ true → operand p ≡ o
 made-operand v c k o ps p h = made-as v c k o ps p h .2
 
 counts : (o : Operand) → 0 ≡ o .b0 → countAllowed o ≡ true → ⊥
@@ -167,10 +167,10 @@ pub record Placed (e : Entry) (ps qs : List Part) : Type 0 where
   pub inner : ps ≡ children part ++ later
   pub kind-is : kindOf (e .kind) ≡ kind part
   pub arity-is : arityOf e ≡ length (children part)
-  pub made-of : make (kindOf (e .kind)) (e .operand) (children part) ≡ some part
+  pub made-of : makePart (kindOf (e .kind)) (e .operand) (children part) ≡ some part
 
 module _ (e : Entry) (ps qs : List Part) where
-  placed-part : (p : Part) → arityOf e ≤ length ps → make (kindOf (e .kind)) (e .operand) (take (arityOf e) ps) ≡ some p → p ∷ drop (arityOf e) ps ≡ qs → Placed e ps qs
+  placed-part : (p : Part) → arityOf e ≤ length ps → makePart (kindOf (e .kind)) (e .operand) (take (arityOf e) ps) ≡ some p → p ∷ drop (arityOf e) ps ≡ qs → Placed e ps qs
   placed-part p l m r =
       let w : (kind p ≡ kindOf (e .kind)) × (children p ≡ take (arityOf e) ps) = made (kindOf (e .kind)) (e .operand) (take (arityOf e) ps) p m in
       record {
@@ -183,32 +183,32 @@ module _ (e : Entry) (ps qs : List Part) where
         made-of = rw (w .1) m;
       }
 
-  placed-case : (b : Bool) (m : Option Part) → leb (arityOf e) (length ps) ≡ b → make (kindOf (e .kind)) (e .operand) (take (arityOf e) ps) ≡ m
+  placed-case : (b : Bool) (m : Option Part) → leb (arityOf e) (length ps) ≡ b → makePart (kindOf (e .kind)) (e .operand) (take (arityOf e) ps) ≡ m
       → cond b (Option·map (λ p. p ∷ drop (arityOf e) ps) m) none ≡ some qs → Placed e ps qs
   placed-case true (some p) l m h = placed-part p (leb-true (arityOf e) (length ps) l) m (cc)
   placed-case true none l m h = absurd (Option·none-ne-some qs h)
   placed-case false m l n h = absurd (Option·none-ne-some qs h)
 
   -- an entry that is placed is placed so
-  pub placed : place e ps ≡ some qs → Placed e ps qs
-  unfolding place
-  placed h = placed-case (leb (arityOf e) (length ps)) (make (kindOf (e .kind)) (e .operand) (take (arityOf e) ps)) refl refl h
+  pub placed : takeChildren e ps ≡ some qs → Placed e ps qs
+  unfolding takeChildren
+  placed h = placed-case (leb (arityOf e) (length ps)) (makePart (kindOf (e .kind)) (e .operand) (take (arityOf e) ps)) refl refl h
 
 arity-entry : (p : Part) → arityOf (entryOf p) ≡ length (children p)
 unfolding arityOf
 arity-entry p = rw (kind-number p) (arity-children p)
 
 -- a part's entry is placed before its children
-pub place-children : (p : Part) (ps : List Part) → place (entryOf p) (children p ++ ps) ≡ some (p ∷ ps)
-unfolding place
+pub place-children : (p : Part) (ps : List Part) → takeChildren (entryOf p) (children p ++ ps) ≡ some (p ∷ ps)
+unfolding takeChildren
 place-children p ps =
     let l : leb (length (children p)) (length (children p ++ ps)) ≡ true = le-leb (length (children p)) (length (children p ++ ps)) (rw length-append (omega arith)) in
     rw (arity-entry p, l, take-append-seam, drop-append-seam, kind-number p, make-children p)
 
 module _ (v c : ℕ) where
   -- an allowed operand, and as many children as it says, make a part
-  makes-part : (k : Kind) (o : Operand) (ps : List Part) → length ps ≡ arity k o → operandAllowed v c k o ≡ true → (p : Part) × (make k o ps ≡ some p)
-  unfolding make arity operandAllowed countAllowed
+  makes-part : (k : Kind) (o : Operand) (ps : List Part) → length ps ≡ arity k o → operandAllowed v c k o ≡ true → (p : Part) × (makePart k o ps ≡ some p)
+  unfolding makePart arity operandAllowed countAllowed
   makes-part UNKNOWN o ps l a = absurd (false≢true a)
   makes-part GOAL o [] l a = (goal o, refl)
   makes-part GOAL o (q ∷ ps) l a = absurd (omega arith)
@@ -232,17 +232,17 @@ module _ (v c : ℕ) where
   makes-part REPEAT o (q ∷ r ∷ ps) l a = absurd (omega arith)
 
 -- where an allowed entry has enough parts after it, it is placed
-pub makes : (e : Entry) (v c : ℕ) (ps : List Part) → knownEntry e ≡ true → allowedEntry v c e ≡ true → arityOf e ≤ length ps → (qs : List Part) × (place e ps ≡ some qs)
-unfolding allowedEntry place
+pub makes : (e : Entry) (v c : ℕ) (ps : List Part) → entryKnown e ≡ true → entryAllowed v c e ≡ true → arityOf e ≤ length ps → (qs : List Part) × (takeChildren e ps ≡ some qs)
+unfolding entryAllowed takeChildren
 makes e v c ps k a l =
-    let m : (p : Part) × (make (kindOf (e .kind)) (e .operand) (take (arityOf e) ps) ≡ some p) = makes-part v c (kindOf (e .kind)) (e .operand) (take (arityOf e) ps) (unfold arityOf in length-take-le (arityOf e) ps l) a in
+    let m : (p : Part) × (makePart (kindOf (e .kind)) (e .operand) (take (arityOf e) ps) ≡ some p) = makes-part v c (kindOf (e .kind)) (e .operand) (take (arityOf e) ps) (unfold arityOf in length-take-le (arityOf e) ps l) a in
     (m .0 ∷ drop (arityOf e) ps, rw (le-leb (arityOf e) (length ps) l, m .1))
 
 -- and where the first of those parts are as many as it takes, they are its children
-pub makes-of : (e : Entry) (v c : ℕ) (cs ps : List Part) → allowedEntry v c e ≡ true → length cs ≡ arityOf e → (p : Part) × (children p ≡ cs) × (place e (cs ++ ps) ≡ some (p ∷ ps))
-unfolding allowedEntry place
+pub makes-of : (e : Entry) (v c : ℕ) (cs ps : List Part) → entryAllowed v c e ≡ true → length cs ≡ arityOf e → (p : Part) × (children p ≡ cs) × (takeChildren e (cs ++ ps) ≡ some (p ∷ ps))
+unfolding entryAllowed takeChildren
 makes-of e v c cs ps a l =
-    let m : (p : Part) × (make (kindOf (e .kind)) (e .operand) cs ≡ some p) = makes-part v c (kindOf (e .kind)) (e .operand) cs (unfold arityOf in l) a in
+    let m : (p : Part) × (makePart (kindOf (e .kind)) (e .operand) cs ≡ some p) = makes-part v c (kindOf (e .kind)) (e .operand) cs (unfold arityOf in l) a in
     let b : leb (length cs) (length (cs ++ ps)) ≡ true = le-leb (length cs) (length (cs ++ ps)) (rw length-append (omega arith)) in
     (m .0, made (kindOf (e .kind)) (e .operand) cs (m .0) (m .1) .1, rw (← l, b, take-append-seam, drop-append-seam, m .1))
 
@@ -270,22 +270,22 @@ trees-alone p = rw append-nil at (trees-preorder p [] [] refl)
 
 module _ (v c : ℕ) where
   -- an entry that is known and allowed is the entry of the part that it is placed as
-  placed-entry : (e : Entry) (ps qs : List Part) → knownEntry e ≡ true → allowedEntry v c e ≡ true → (w : Placed e ps qs) → entryOf (w .part) ≡ e
-  unfolding knownEntry allowedEntry arityOf
+  placed-entry : (e : Entry) (ps qs : List Part) → entryKnown e ≡ true → entryAllowed v c e ≡ true → (w : Placed e ps qs) → entryOf (w .part) ≡ e
+  unfolding entryKnown entryAllowed arityOf
   placed-entry e ps qs k a w =
       let n : numberOf (kind (w .part)) ≡ e .kind = rw (← (w .kind-is)) (number-known (e .kind) k) in
       let o : operand (w .part) ≡ e .operand = made-operand v c (kindOf (e .kind)) (e .operand) (children (w .part)) (w .part) (w .made-of) (sym (w .arity-is)) a in
       λ i. record { kind = n i; operand = o i }
 
-  trees-are-one : (e : Entry) (es : List Entry) (ps qs : List Part) → knownEntry e ≡ true → allowedEntry v c e ≡ true → es ≡ flat preorder ps → Placed e ps qs → e ∷ es ≡ flat preorder qs
+  trees-are-one : (e : Entry) (es : List Entry) (ps qs : List Part) → entryKnown e ≡ true → entryAllowed v c e ≡ true → es ≡ flat preorder ps → Placed e ps qs → e ∷ es ≡ flat preorder qs
   trees-are-one e es ps qs k a h w = rw (w .result, preorder-law (w .part), placed-entry e ps qs k a w, h, w .inner, flat-append preorder)
 
   -- entries that are known and allowed are the preorders of the trees that they form
-  pub trees-are : (es : List Entry) (ps : List Part) → trees es ≡ some ps → all knownEntry es ≡ true → all (allowedEntry v c) es ≡ true → es ≡ flat preorder ps
+  pub trees-are : (es : List Entry) (ps : List Part) → trees es ≡ some ps → all entryKnown es ≡ true → all (entryAllowed v c) es ≡ true → es ≡ flat preorder ps
   unfolding trees
   trees-are [] ps t k a = let n : ps ≡ [] = cc in rw n
-  trees-are (e ∷ es) ps t k a = go (trees es) (λ qs q. trees-are es qs q (and-right (knownEntry e) (all knownEntry es) k) (and-right (allowedEntry v c e) (all (allowedEntry v c) es) a)) refl t
+  trees-are (e ∷ es) ps t k a = go (trees es) (λ qs q. trees-are es qs q (and-right (entryKnown e) (all entryKnown es) k) (and-right (entryAllowed v c e) (all (entryAllowed v c) es) a)) refl t
     where
-      go : (m : Option (List Part)) → ((qs : List Part) → trees es ≡ some qs → es ≡ flat preorder qs) → trees es ≡ m → follow (place e) m ≡ some ps → e ∷ es ≡ flat preorder ps
+      go : (m : Option (List Part)) → ((qs : List Part) → trees es ≡ some qs → es ≡ flat preorder qs) → trees es ≡ m → follow (takeChildren e) m ≡ some ps → e ∷ es ≡ flat preorder ps
       go none ih q h = absurd (Option·none-ne-some ps h)
-      go (some qs) ih q h = trees-are-one e es qs ps (and-left (knownEntry e) (all knownEntry es) k) (and-left (allowedEntry v c e) (all (allowedEntry v c) es) a) (ih qs q) (placed e qs ps h)
+      go (some qs) ih q h = trees-are-one e es qs ps (and-left (entryKnown e) (all entryKnown es) k) (and-left (entryAllowed v c e) (all (entryAllowed v c) es) a) (ih qs q) (placed e qs ps h)

@@ -9,27 +9,27 @@ use lib.Dec.{eqb, leb}
 use lib.ListN.{length, getD, take, drop, set, replicate, length-append, length-replicate, getD-replicate}
 use lib.Seq.{sets, length-sets}
 use borrow.Author.Tests.{le-leb, leb-true, eqb-true}
-use Rattle.base.specs.Lists.{sum, join, flat, all, any, tabulate, flag, bytesAt}
+use Rattle.base.specs.Lists.{sum, concat, flat, all, any, tabulate, flag, bytesAt}
 use Rattle.base.proofs.Lists.{and-left, and-right, each-passes, Passed, none-fails, cond-map, cond-same, length-pieces, length-tabulate, getD-tabulate, all-tabulate, all-replicate}
 use Rattle.base.proofs.Stores.{length-bytes, sets-start, drop-front, bytes-front, drop-join, sets-join, bytes-join}
 use Rattle.meaning.specs.declared.Entry.{Entry}
-use Rattle.meaning.specs.Sizes.{maxParts, maxVariables, maxClocks, maxValue, timeWidth, littleEndian, valueFrom, byteValues, timeLimit}
+use Rattle.meaning.specs.Sizes.{maxParts, maxVariables, maxClocks, maxValue, timeWidth, littleEndian, littleEndianValue, byteValues, timeLimit}
 use Rattle.meaning.specs.Program.{parts, variables, clocks}
 use Rattle.meaning.specs.Table.{insideOf, isTable}
 use Rattle.meaning.specs.Conditions.{Situation}
-use Rattle.meaning.specs.declared.Fate.{Fate}
-use Rattle.meaning.specs.declared.Fate.the-variants.{Stays, Ends, First, Second}
-use Rattle.meaning.specs.Cycle.{applied, begins, freshFrom, fresh, breaks, checkedFrom, checkedMarks, offeredRecord, leavesFrom, settledFrom, settledMarks, rootEnded, startsClock, clockFlags, clockStarts, settledRecord, estimateAllowed, freshRecord, beginRefusal, begunInto}
+use Rattle.meaning.specs.declared.Transition.{Transition}
+use Rattle.meaning.specs.declared.Transition.the-variants.{Stays, Ends, First, Second}
+use Rattle.meaning.specs.Cycle.{applied, begins, initialMarksFrom, initialMarks, breaks, checkedFrom, checkedMarks, offeredRecord, leavesFrom, settledFrom, settledMarks, rootEnded, startsClock, clockFlags, clockStarts, settledRecord, estimateAllowed, freshRecord, beginRefusal, begunInto}
 use Rattle.meaning.specs.Record.{timePlace, estimatePlace, startedPlace, startsPlace, marksPlace, recordLength, timeAt, phaseOf, lastTime, estimateIn, startedIn, startsIn, marksIn, recordBytes, isMark, isZero, restZero, valuesAllowed, clockAllowed, clocksAllowed, rootAllowed, partsAllowed, recordAllowed, waiting, offered, finished}
 use Rattle.meaning.specs.Answers.{bufferTooShort, notATable, estimateNotAllowed}
 use Rattle.meaning.proofs.Tables.{table-held, root-there, root-end}
 
 -- Numbers: a number is read back from as many bytes as hold it
-pub value-back : (w x : ℕ) → x < 256 ^ suc w → valueFrom (x % 256) (littleEndian w (x / 256)) ≡ x
+pub value-back : (w x : ℕ) → x < 256 ^ suc w → littleEndianValue (x % 256) (littleEndian w (x / 256)) ≡ x
 value-back zero x h = omega arith
 value-back (suc w) x h = rw (value-back w (x / 256) (omega arith)) (omega arith)
 
-pub value-of : (w x b : ℕ) (bs : List ℕ) → b ∷ bs ≡ littleEndian (suc w) x → x < byteValues ^ suc w → valueFrom b bs ≡ x
+pub value-of : (w x b : ℕ) (bs : List ℕ) → b ∷ bs ≡ littleEndian (suc w) x → x < byteValues ^ suc w → littleEndianValue b bs ≡ x
 value-of w x b bs e h =
     let p : b ≡ x % byteValues = cc in
     let q : bs ≡ littleEndian w (x / byteValues) = cc in
@@ -90,20 +90,20 @@ module _ {t est started starts marks : List ℕ} (shape : Shaped t est started s
   wide : map length (pieces t phase time est started starts marks more) ≡ widths t (length more)
   wide = simp (length-replicate, length-times, shape .estimate-is, shape .started-is, shape .starts-are, shape .marks-are)
 
-  in-pieces : recordBytes phase time est started starts marks ++ more ≡ join (pieces t phase time est started starts marks more)
+  in-pieces : recordBytes phase time est started starts marks ++ more ≡ concat (pieces t phase time est started starts marks more)
   unfolding recordBytes
   in-pieces =
       let n : timeWidth * maxClocks - timeWidth * clocks t ≡ timeWidth * (maxClocks - clocks t) = omega arith in
       simp (append-assoc, append-nil, length-times, shape .estimate-is, shape .started-is, shape .starts-are, shape .marks-are, n)
 
   -- what stands from piece i on, what is read at it, and what is written over it
-  from-piece : (i k : ℕ) → sum (take i (widths t (length more))) ≡ k → drop k (recordBytes phase time est started starts marks ++ more) ≡ join (drop i (pieces t phase time est started starts marks more))
+  from-piece : (i k : ℕ) → sum (take i (widths t (length more))) ≡ k → drop k (recordBytes phase time est started starts marks ++ more) ≡ concat (drop i (pieces t phase time est started starts marks more))
   from-piece i k a = rw in-pieces (drop-join (pieces t phase time est started starts marks more) (widths t (length more)) wide i k a)
 
   read-piece : (i k n : ℕ) → sum (take i (widths t (length more))) ≡ k → getD (widths t (length more)) i 0 ≡ n → bytesAt (recordBytes phase time est started starts marks ++ more) k n ≡ getD (pieces t phase time est started starts marks more) i []
   read-piece i k n a e = rw in-pieces (bytes-join (pieces t phase time est started starts marks more) (widths t (length more)) wide i k a n e)
 
-  write-piece : (i k : ℕ) (ys : List ℕ) → sum (take i (widths t (length more))) ≡ k → length ys ≡ getD (widths t (length more)) i 0 → sets (recordBytes phase time est started starts marks ++ more) k ys ≡ join (set (pieces t phase time est started starts marks more) i ys)
+  write-piece : (i k : ℕ) (ys : List ℕ) → sum (take i (widths t (length more))) ≡ k → length ys ≡ getD (widths t (length more)) i 0 → sets (recordBytes phase time est started starts marks ++ more) k ys ≡ concat (set (pieces t phase time est started starts marks more) i ys)
   write-piece i k ys a e = rw in-pieces (sets-join (pieces t phase time est started starts marks more) (widths t (length more)) wide i k a ys e)
 
 -- a record has its length
@@ -129,7 +129,7 @@ module _ {t : List ℕ} {time : ℕ} {est started starts marks : List ℕ} (fits
   pub starts-read : startsIn t (recordBytes phase time est started starts marks ++ more) ≡ starts
   starts-read =
       let r : List ℕ = recordBytes phase time est started starts marks ++ more in
-      let rest : List ℕ = join (drop 7 (pieces t phase time est started starts marks more)) in
+      let rest : List ℕ = concat (drop 7 (pieces t phase time est started starts marks more)) in
       rw (fits .shape .starts-are) at (times-back r starts rest startsPlace 0 (from-piece (fits .shape) phase time more 6 startsPlace (omega arith)) (λ c l. fits .starts-fit c (omega arith)))
 
   pub marks-read : marksIn t (recordBytes phase time est started starts marks ++ more) ≡ marks
@@ -180,37 +180,37 @@ fields-written {t} {est} {started} {starts} {marks} shape phase time more x es f
     )
 
 -- How many marks there are: one for a part and for each inside it, and an offer and a settling keep their number
-length-fresh-from : (t : List ℕ) (p n skip : ℕ) → length (freshFrom t p n skip) ≡ n
-unfolding freshFrom
-length-fresh-from t p zero skip = refl
-length-fresh-from t p (suc n) zero = ap suc (length-fresh-from t (suc p) n (cond (begins t p) 0 (insideOf t p)))
-length-fresh-from t p (suc n) (suc skip) = ap suc (length-fresh-from t (suc p) n skip)
+length-initial-from : (t : List ℕ) (p n skip : ℕ) → length (initialMarksFrom t p n skip) ≡ n
+unfolding initialMarksFrom
+length-initial-from t p zero skip = refl
+length-initial-from t p (suc n) zero = ap suc (length-initial-from t (suc p) n (cond (begins t p) 0 (insideOf t p)))
+length-initial-from t p (suc n) (suc skip) = ap suc (length-initial-from t (suc p) n skip)
 
-pub length-fresh : (t : List ℕ) (q : ℕ) → length (fresh t q) ≡ suc (insideOf t q)
-unfolding fresh
-length-fresh t q = ap suc (length-fresh-from t (suc q) (insideOf t q) 0)
+pub length-initial : (t : List ℕ) (q : ℕ) → length (initialMarks t q) ≡ suc (insideOf t q)
+unfolding initialMarks
+length-initial t q = ap suc (length-initial-from t (suc q) (insideOf t q) 0)
 
 -- the root's are the marks of all parts
-pub length-root : (t : List ℕ) → isTable t ≡ true → length (fresh t 0) ≡ parts t
-length-root t table = omega (arith, length-fresh t 0, root-there t table, root-end t table)
+pub length-root : (t : List ℕ) → isTable t ≡ true → length (initialMarks t 0) ≡ parts t
+length-root t table = omega (arith, length-initial t 0, root-there t table, root-end t table)
 
-pub length-checked : (t : List ℕ) (s : Situation) (p : ℕ) (ms : List ℕ) (skip : ℕ) → length (checkedFrom t s p ms skip) ≡ length ms
+pub length-checked : (t : List ℕ) (sit : Situation) (p : ℕ) (ms : List ℕ) (skip : ℕ) → length (checkedFrom t sit p ms skip) ≡ length ms
 unfolding checkedFrom
-length-checked t s p [] skip = refl
-length-checked t s p (m ∷ ms) zero = ap suc (length-checked t s (suc p) ms (cond (breaks t s p m) (insideOf t p) 0))
-length-checked t s p (m ∷ ms) (suc skip) = ap suc (length-checked t s (suc p) ms skip)
+length-checked t sit p [] skip = refl
+length-checked t sit p (m ∷ ms) zero = ap suc (length-checked t sit (suc p) ms (cond (breaks t sit p m) (insideOf t p) 0))
+length-checked t sit p (m ∷ ms) (suc skip) = ap suc (length-checked t sit (suc p) ms skip)
 
-length-applied : (t : List ℕ) (p : ℕ) (f : Fate) (rest : List ℕ) → length (applied t p f rest) ≡ suc (length rest)
+length-applied : (t : List ℕ) (p : ℕ) (f : Transition) (rest : List ℕ) → length (applied t p f rest) ≡ suc (length rest)
 unfolding applied
 length-applied t p Stays rest = refl
 length-applied t p Ends rest = simp (cond-map (length {A = ℕ}), length-sets, cond-same)
 length-applied t p First rest = simp length-sets
 length-applied t p Second rest = simp length-sets
 
-pub length-settled : (t : List ℕ) (s : Situation) (p : ℕ) (ms : List ℕ) → length (settledFrom t s p ms) ≡ length ms
+pub length-settled : (t : List ℕ) (sit : Situation) (p : ℕ) (ms : List ℕ) → length (settledFrom t sit p ms) ≡ length ms
 unfolding settledFrom
-length-settled t s p [] = refl
-length-settled t s p (m ∷ ms) = simp (cond-map (length {A = ℕ}), length-applied, cond-same, length-settled t s (suc p) ms)
+length-settled t sit p [] = refl
+length-settled t sit p (m ∷ ms) = simp (cond-map (length {A = ℕ}), length-applied, cond-same, length-settled t sit (suc p) ms)
 
 -- The clocks after a settling
 cond-below : (b : Bool) (x y n : ℕ) → x < n → y < n → cond b x y < n
@@ -290,8 +290,8 @@ module _ {t : List ℕ} {time : ℕ} {est started starts marks : List ℕ} (fits
   checked-marks now = rw (estimate-read fits phase more, started-read fits phase more, starts-read fits phase more, marks-read fits phase more)
 
   -- the marks after a settling
-  pub settled-marks : (new : List ℕ) → settledMarks t (recordBytes phase time est started starts marks ++ more) new ≡ settledFrom t (judged new started starts time) 0 marks
-  settled-marks new = rw (started-read fits phase more, starts-read fits phase more, marks-read fits phase more, time-read fits phase more)
+  pub settled-record-marks : (new : List ℕ) → settledMarks t (recordBytes phase time est started starts marks ++ more) new ≡ settledFrom t (judged new started starts time) 0 marks
+  settled-record-marks new = rw (started-read fits phase more, starts-read fits phase more, marks-read fits phase more, time-read fits phase more)
 
   -- the record after an offer
   pub offered-bytes : (now : ℕ) → offeredRecord t (recordBytes phase time est started starts marks ++ more) now ≡ recordBytes offered now est started starts (checkedFrom t (judged est started starts now) 0 marks 0) ++ more
@@ -309,7 +309,7 @@ module _ {t : List ℕ} {time : ℕ} {est started starts marks : List ℕ} (fits
       → settledRecord t (recordBytes phase time est started starts marks ++ more) new
       ≡ recordBytes (cond (rootEnded (settledFrom t (judged new started starts time) 0 marks)) finished waiting) time new (clockFlags (clocks t) (leavesFrom t 0 marks) started) (clockStarts (clocks t) (leavesFrom t 0 marks) started starts time) (settledFrom t (judged new started starts time) 0 marks) ++ more
   settled-bytes new e =
-      rw (settled-marks new, started-read fits phase more, starts-read fits phase more, marks-read fits phase more, time-read fits phase more)
+      rw (settled-record-marks new, started-read fits phase more, starts-read fits phase more, marks-read fits phase more, time-read fits phase more)
       (fields-written (fits .shape) phase time more _ new _ _ _ (settled-fits fits new e .shape))
 
 -- What makes a record allowed
@@ -401,7 +401,7 @@ module _ (t est : List ℕ) (room : ℕ) (h : beginRefusal t est room ≡ 0) whe
   begin-tests = none-fails ((notATable, isTable t) ∷ (estimateNotAllowed, estimateAllowed (variables t) est) ∷ (bufferTooShort, leb recordLength room) ∷ []) refl h
 
   -- what a record holds at the beginning
-  pub begun-fits : length (fresh t 0) ≡ parts t → Fits t 0 est (replicate (clocks t) 0) (replicate (clocks t) 0) (fresh t 0)
+  pub begun-fits : length (initialMarks t 0) ≡ parts t → Fits t 0 est (replicate (clocks t) 0) (replicate (clocks t) 0) (initialMarks t 0)
   begun-fits e =
       let x = table-held t (begin-tests .0) in
       record {
@@ -411,11 +411,11 @@ module _ (t est : List ℕ) (room : ℕ) (h : beginRefusal t est room ≡ 0) whe
       }
 
 -- the record that a beginning writes
-pub begun-bytes : (t est r : List ℕ) → beginRefusal t est (length r) ≡ 0 → length (fresh t 0) ≡ parts t
-    → begunInto t est r ≡ recordBytes waiting 0 est (replicate (clocks t) 0) (replicate (clocks t) 0) (fresh t 0) ++ drop recordLength r
+pub begun-bytes : (t est r : List ℕ) → beginRefusal t est (length r) ≡ 0 → length (initialMarks t 0) ≡ parts t
+    → begunInto t est r ≡ recordBytes waiting 0 est (replicate (clocks t) 0) (replicate (clocks t) 0) (initialMarks t 0) ++ drop recordLength r
 unfolding begunInto freshRecord
 begun-bytes t est r h e =
-    let f : Fits t 0 est (replicate (clocks t) 0) (replicate (clocks t) 0) (fresh t 0) = begun-fits t est (length r) h e in
+    let f : Fits t 0 est (replicate (clocks t) 0) (replicate (clocks t) 0) (initialMarks t 0) = begun-fits t est (length r) h e in
     let n : length (freshRecord t est) ≡ recordLength = length-record (f .shape) waiting 0 in
     let room : recordLength ≤ length r = leb-true recordLength (length r) (begin-tests t est (length r) h .1 .1 .0) in
     rw h (rw n at (sets-start r (freshRecord t est) (rw n room)))

@@ -18,12 +18,12 @@ use Rattle.meaning.specs.declared.Form.{Form}
 use Rattle.meaning.specs.declared.Form.the-variants.{File, Table}
 use Rattle.meaning.specs.Sizes.{numberWidth, noPart, headerLength, linksLength, rowLength, operandPlace, numberAt}
 use Rattle.meaning.specs.Kinds.{Kind, UNKNOWN, GOAL, START, WAIT, SEQ, PAR, MAINTAIN, CHOICE, REPEAT, kindOf, numberOf}
-use Rattle.meaning.specs.Tree.{Part, goal, start, wait, seq, par, maintain, choice, repeat, kind, children, operand, size, counted}
+use Rattle.meaning.specs.Tree.{Part, goal, start, wait, seq, par, maintain, choice, repeat, kind, children, operand, size, countOperand}
 use Rattle.meaning.specs.Program.{parts, variables, clocks, sizeBytes, entryAt, entries, preorder, treeOf, programRefusal, Within, fileOf}
 use Rattle.meaning.specs.Table.{Row, rowBytes, nextOf, siblings, block, tableOf, compiled, endAt, parentAt, nextAt, kindAt, fileIn, isTable}
 use Rattle.meaning.proofs.Trees.{All, part-ind, preorder-law, rows-law, block-parts, length-preorder, size-law}
 use Rattle.meaning.proofs.Parsing.{kind-number}
-use Rattle.meaning.proofs.Files.{Holds, accepted, held-tree, held-accepted, past-header, entries-at, number-back, parts-back, file-accepted, held-file}
+use Rattle.meaning.proofs.Files.{Holds, accepted, held-tree, held-accepted, past-header, entries-are, number-back, parts-back, file-accepted, held-file}
 
 -- what a row holds of its part's entry
 abbrev pub rowEntry : Row → Entry
@@ -47,7 +47,7 @@ pub length-rows : (p : Part) (n q x : ℕ) → length (block p .rows n q x) ≡ 
 length-rows p n q x = sym (length-map (block p .rows n q x) rowEntry) ∙ ap length (rows-entries p n q x) ∙ length-preorder p
 
 abbrev pub noRow : Row
-noRow = record { kind = 0; end = 0; parent = 0; next = 0; operand = counted 0 }
+noRow = record { kind = 0; end = 0; parent = 0; next = 0; operand = countOperand 0 }
 
 -- the rows of a tree that is a whole program
 abbrev pub treeRows : Part → List Row
@@ -75,7 +75,7 @@ module _ (h : List ℕ) (rs : List Row) (l : length h ≡ headerLength) where
 
   row-entries : parts (h ++ flat rowBytes rs) ≡ length rs → entries Table (h ++ flat rowBytes rs) ≡ map rowEntry rs
   row-entries n =
-      entries-at Table (h ++ flat rowBytes rs) (rowEntry noRow) (map rowEntry rs) (n ∙ sym (length-map rs rowEntry)) (λ i k. row-entry i (rw length-map at k) ∙ sym (List·getD-map rowEntry rs i noRow))
+      entries-are Table (h ++ flat rowBytes rs) (rowEntry noRow) (map rowEntry rs) (n ∙ sym (length-map rs rowEntry)) (λ i k. row-entry i (rw length-map at k) ∙ sym (List·getD-map rowEntry rs i noRow))
 
 module _ (v k : ℕ) (p : Part) (w : Within v k p) where
   pub table-parts : parts (tableOf v k p) ≡ size p
@@ -94,7 +94,7 @@ module _ (v k : ℕ) (p : Part) (w : Within v k p) where
         within = w;
       }
 
-  -- the table of a tree within the limits is accepted, and reading it gives that tree back
+  -- the table of a tree within the limits is accepted, and that tree is the one that it holds
   pub table-accepted : (programRefusal Table (tableOf v k p) ≡ 0) × (treeOf Table (tableOf v k p) ≡ some p) × (variables (tableOf v k p) ≡ v) × (clocks (tableOf v k p) ≡ k)
   unfolding tableOf
   table-accepted = (held-accepted Table (tableOf v k p) p table-holds, held-tree Table (tableOf v k p) p table-holds, refl, refl)
@@ -334,7 +334,7 @@ pub record Later (t : List ℕ) (p : ℕ) : Type 0 where
   pub same-parent : parentAt t (nextAt t p) ≡ parentAt t p
 
 -- the numbers in row p stay inside the table
-pub record Inside (t : List ℕ) (p : ℕ) : Type 0 where
+pub record LinksInside (t : List ℕ) (p : ℕ) : Type 0 where
   pub end-after : p < endAt t p
   pub end-within : endAt t p ≤ parts t
   pub parent-is : (parentAt t p ≡ noPart) ⊎ (parentAt t p < p)
@@ -390,7 +390,7 @@ module _ (v k : ℕ) (p : Part) (w : Within v k p) where
         same-parent = rw (next-at i l ∙ a) (parent-at (suc i + f .steps) b ∙ c ∙ sym (parent-at i l));
       }
 
-  inside-tree : (i : ℕ) → i < size p → Inside (tableOf v k p) i
+  inside-tree : (i : ℕ) → i < size p → LinksInside (tableOf v k p) i
   inside-tree i l =
       let a : Linked i (rowAt p i) (drop (suc i) (treeRows p)) = row-linked p i l in
       record {
@@ -410,10 +410,10 @@ module _ (v k : ℕ) (p : Part) (w : Within v k p) where
       (omega (arith, table-parts v k p w), omega (arith, table-parts v k p w, end-at (suc i) m))
 
 -- the numbers in each row of a table stay inside it
-pub inside : (t : List ℕ) → isTable t ≡ true → (p : ℕ) → p < parts t → Inside t p
+pub inside : (t : List ℕ) → isTable t ≡ true → (p : ℕ) → p < parts t → LinksInside t p
 inside t h p l =
     let x = table-tree t h in
-    subst (λ s. p < parts s → Inside s p) (sym (x .2)) (λ m. inside-tree (variables t) (clocks t) (x .0) (x .1) p (rw (table-parts (variables t) (clocks t) (x .0) (x .1)) at m)) l
+    subst (λ s. p < parts s → LinksInside s p) (sym (x .2)) (λ m. inside-tree (variables t) (clocks t) (x .0) (x .1) p (rw (table-parts (variables t) (clocks t) (x .0) (x .1)) at m)) l
 
 -- there is a root, and it ends where the table does
 module _ (t : List ℕ) (table : isTable t ≡ true) where

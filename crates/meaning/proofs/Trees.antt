@@ -4,7 +4,7 @@ use native.Mathlib.Omega.{arith}
 use mathlib.Core.Path.{_≡_, refl, ap, _∙_}
 use mathlib.Core.List.{List, [], _∷_, map, map-map}
 use lib.ListN.{length}
-use Rattle.base.specs.Lists.{sum, largest, join, flat}
+use Rattle.base.specs.Lists.{sum, largest, concat, flat}
 use Rattle.base.proofs.Lists.{length-flat}
 use Rattle.meaning.specs.declared.Operand.{Operand}
 use Rattle.meaning.specs.declared.Entry.{Entry}
@@ -70,7 +70,7 @@ entryOf p = record { kind = numberOf (kind p); operand = operand p }
 -- the preorder of a part is its entry, then its children's preorders
 pub preorder-law : (p : Part) → preorder p ≡ entryOf p ∷ flat preorder (children p)
 unfolding preorder
-preorder-law p = fold-law (λ k o es. record { kind = numberOf k; operand = o } ∷ join es) p
+preorder-law p = fold-law (λ k o es. record { kind = numberOf k; operand = o } ∷ concat es) p
 
 -- a part's block, from its children's blocks
 pub block-law : (p : Part) → block p ≡ blockOf (kind p) (operand p) (map block (children p))

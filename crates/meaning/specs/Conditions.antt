@@ -17,14 +17,14 @@ pub record Situation : Type 0 where
   pub time : ℕ
 
 abbrev pub estimateOf : Situation → ℕ → ℕ
-estimateOf s v = getD (s .estimate) v 0
+estimateOf sit v = getD (sit .estimate) v 0
 
 abbrev pub isStarted : Situation → ℕ → Bool
-isStarted s c = not (eqb (getD (s .started) c 0) 0)
+isStarted sit c = not (eqb (getD (sit .started) c 0) 0)
 
 -- "A started clock reads the cycle's time minus its start"
 abbrev pub reading : Situation → ℕ → ℕ
-reading s c = s .time - getD (s .starts) c 0
+reading sit c = sit .time - getD (sit .starts) c 0
 
 abbrev pub decided : Bool → Outcome
 decided true = Satisfied
@@ -32,17 +32,17 @@ decided false = Violated
 
 -- "A condition over an unstarted clock is not satisfied", and not violated either
 abbrev pub onClock : Situation → ℕ → Bool → Outcome
-onClock s c b = cond (isStarted s c) (decided b) Open
+onClock sit c b = cond (isStarted sit c) (decided b) Open
 
 abbrev pub tested : Situation → Test → ℕ → ℕ → Outcome
-tested s UNTESTED i n = Open
-tested s EQUALS i n = decided (eqb (estimateOf s i) n)
-tested s DIFFERS i n = decided (not (eqb (estimateOf s i) n))
-tested s AT-LEAST i n = onClock s i (leb n (reading s i))
-tested s BELOW i n = onClock s i (ltb (reading s i) n)
+tested sit UNTESTED i n = Open
+tested sit EQUALS i n = decided (eqb (estimateOf sit i) n)
+tested sit DIFFERS i n = decided (not (eqb (estimateOf sit i) n))
+tested sit AT-LEAST i n = onClock sit i (leb n (reading sit i))
+tested sit BELOW i n = onClock sit i (ltb (reading sit i) n)
 
 unfoldable pub outcome : Situation → Operand → Outcome
-outcome s o = tested s (testOf (o .b0)) (o .b1) (value o)
+outcome sit o = tested sit (testOf (o .b0)) (o .b1) (value o)
 
 abbrev pub isSatisfied : Outcome → Bool
 isSatisfied Satisfied = true
@@ -56,10 +56,10 @@ isViolated Open = false
 
 -- "A marked GOAL ends when its variable has its value"
 unfoldable pub reached : Situation → Operand → Bool
-reached s o = eqb (estimateOf s (o .b1)) (value o)
+reached sit o = eqb (estimateOf sit (o .b1)) (value o)
 
 unfoldable pub satisfied : Situation → Operand → Bool
-satisfied s o = isSatisfied (outcome s o)
+satisfied sit o = isSatisfied (outcome sit o)
 
 unfoldable pub violated : Situation → Operand → Bool
-violated s o = isViolated (outcome s o)
+violated sit o = isViolated (outcome sit o)

@@ -11,8 +11,8 @@ use Rattle.base.specs.Lists.{all, any, flat, tabulate, flag, firstFailing}
 use Rattle.meaning.specs.declared.Operand.{Operand}
 use Rattle.meaning.specs.declared.Entry.{Entry}
 use Rattle.meaning.specs.declared.Form.the-variants.{Table}
-use Rattle.meaning.specs.declared.Fate.{Fate}
-use Rattle.meaning.specs.declared.Fate.the-variants.{Stays, Ends, First, Second}
+use Rattle.meaning.specs.declared.Transition.{Transition}
+use Rattle.meaning.specs.declared.Transition.the-variants.{Stays, Ends, First, Second}
 use Rattle.meaning.specs.Sizes.{maxValue, timeWidth, noPart, littleEndian}
 use Rattle.meaning.specs.Kinds.{Kind, UNKNOWN, GOAL, START, WAIT, SEQ, PAR, MAINTAIN, CHOICE, REPEAT, numberOf, value}
 use Rattle.meaning.specs.Program.{variables, clocks, entryAt}
@@ -38,27 +38,27 @@ abbrev pub begins : List ℕ → ℕ → Bool
 begins t p = beginsIn (kindAt t (parentAt t p)) (parentAt t p) p
 
 -- the marks of n parts from p on that stand in an initialised part; the first `skip` of them stand in a part that is not
-unfoldable pub freshFrom : List ℕ → ℕ → ℕ → ℕ → List ℕ
-freshFrom t p zero skip = []
-freshFrom t p (suc n) zero = flag (begins t p) ∷ freshFrom t (suc p) n (cond (begins t p) 0 (insideOf t p))
-freshFrom t p (suc n) (suc skip) = 0 ∷ freshFrom t (suc p) n skip
+unfoldable pub initialMarksFrom : List ℕ → ℕ → ℕ → ℕ → List ℕ
+initialMarksFrom t p zero skip = []
+initialMarksFrom t p (suc n) zero = flag (begins t p) ∷ initialMarksFrom t (suc p) n (cond (begins t p) 0 (insideOf t p))
+initialMarksFrom t p (suc n) (suc skip) = 0 ∷ initialMarksFrom t (suc p) n skip
 
 -- the marks of part q and of all parts inside it once it is initialised
-unfoldable pub fresh : List ℕ → ℕ → List ℕ
-fresh t q = 1 ∷ freshFrom t (suc q) (insideOf t q) 0
+unfoldable pub initialMarks : List ℕ → ℕ → List ℕ
+initialMarks t q = 1 ∷ initialMarksFrom t (suc q) (insideOf t q) 0
 
 -- Offer. "From the root down, a marked MAINTAIN whose condition is violated by the stored estimate and this time loses every mark inside it and stays marked"
 abbrev pub isKind : Kind → Entry → Bool
 isKind k e = eqb (e .kind) (numberOf k)
 
 abbrev pub breaks : List ℕ → Situation → ℕ → ℕ → Bool
-breaks t s p m = isMark m && (isKind MAINTAIN (entryAt Table t p) && violated s (operandOf t p))
+breaks t sit p m = isMark m && (isKind MAINTAIN (entryAt Table t p) && violated sit (operandOf t p))
 
 -- the marks from part p on after that; the first `skip` of them stand in such a MAINTAIN
 unfoldable pub checkedFrom : List ℕ → Situation → ℕ → List ℕ → ℕ → List ℕ
-checkedFrom t s p [] skip = []
-checkedFrom t s p (m ∷ ms) zero = m ∷ checkedFrom t s (suc p) ms (cond (breaks t s p m) (insideOf t p) 0)
-checkedFrom t s p (m ∷ ms) (suc skip) = 0 ∷ checkedFrom t s (suc p) ms skip
+checkedFrom t sit p [] skip = []
+checkedFrom t sit p (m ∷ ms) zero = m ∷ checkedFrom t sit (suc p) ms (cond (breaks t sit p m) (insideOf t p) 0)
+checkedFrom t sit p (m ∷ ms) (suc skip) = 0 ∷ checkedFrom t sit (suc p) ms skip
 
 -- The marked leaves, in the order of their parts: "Kinds 1 to 3 are the leaves"
 abbrev pub isLeaf : Entry → Bool
@@ -90,47 +90,47 @@ goalBytes n es = tabulate (λ v. goalByte (valuesFor v es)) 0 n
 abbrev pub Names : List ℕ → ℕ → Type 0
 Names goals n = ((n < length goals) × (getD goals n 0 ≡ contested)) ⊎ ((n ≡ noVariable) × ((v : ℕ) → v < length goals → getD goals v 0 ≡ contested → ⊥))
 
--- Settling. What becomes of a marked part (`Fate`)
-abbrev pub endsIf : Bool → Fate
+-- Settling. What becomes of a marked part (`Transition`)
+abbrev pub endsIf : Bool → Transition
 endsIf true = Ends
 endsIf false = Stays
 
 -- "A marked GOAL ends when its variable has its value, a WAIT when satisfied, a START always"; a deciding CHOICE (document 01's term: marked,
 -- with nothing marked inside) has "its first child initialised if satisfied, else its second"; "Any other marked composite with nothing marked
 -- inside after this ends too". `before` and `after` say whether something is marked inside, before and after the settling of what is inside
-unfoldable pub fate : Situation → Kind → Operand → Bool → Bool → Fate
-fate s UNKNOWN o before after = Stays
-fate s GOAL o before after = endsIf (reached s o)
-fate s START o before after = Ends
-fate s WAIT o before after = endsIf (satisfied s o)
-fate s SEQ o before after = endsIf (not after)
-fate s PAR o before after = endsIf (not after)
-fate s MAINTAIN o before after = endsIf (not after)
-fate s CHOICE o before after = cond before (endsIf (not after)) (cond (satisfied s o) First Second)
-fate s REPEAT o before after = endsIf (not after)
+unfoldable pub transition : Situation → Kind → Operand → Bool → Bool → Transition
+transition sit UNKNOWN o before after = Stays
+transition sit GOAL o before after = endsIf (reached sit o)
+transition sit START o before after = Ends
+transition sit WAIT o before after = endsIf (satisfied sit o)
+transition sit SEQ o before after = endsIf (not after)
+transition sit PAR o before after = endsIf (not after)
+transition sit MAINTAIN o before after = endsIf (not after)
+transition sit CHOICE o before after = cond before (endsIf (not after)) (cond (satisfied sit o) First Second)
+transition sit REPEAT o before after = endsIf (not after)
 
 -- marks from part p on, in which part q is initialised
-abbrev pub begun : List ℕ → ℕ → ℕ → List ℕ → List ℕ
-begun t p q ms = sets ms (q - p) (fresh t q)
+abbrev pub initialised : List ℕ → ℕ → ℕ → List ℕ → List ℕ
+initialised t p q ms = sets ms (q - p) (initialMarks t q)
 
 -- "A part that ends loses its mark and then initialises its next, if it has one"
-unfoldable pub applied : List ℕ → ℕ → Fate → List ℕ → List ℕ
+unfoldable pub applied : List ℕ → ℕ → Transition → List ℕ → List ℕ
 applied t p Stays rest = 1 ∷ rest
-applied t p Ends rest = cond (eqb (nextAt t p) noPart) (0 ∷ rest) (begun t p (nextAt t p) (0 ∷ rest))
-applied t p First rest = begun t p (suc p) (1 ∷ rest)
-applied t p Second rest = begun t p (endAt t (suc p)) (1 ∷ rest)
+applied t p Ends rest = cond (eqb (nextAt t p) noPart) (0 ∷ rest) (initialised t p (nextAt t p) (0 ∷ rest))
+applied t p First rest = initialised t p (suc p) (1 ∷ rest)
+applied t p Second rest = initialised t p (endAt t (suc p)) (1 ∷ rest)
 
 -- part p, marked m before, with the marks after it before and after their own settling
 abbrev pub settledPart : List ℕ → Situation → ℕ → ℕ → List ℕ → List ℕ → List ℕ
-settledPart t s p m ms rest =
+settledPart t sit p m ms rest =
     cond (isMark m)
-    (applied t p (fate s (kindAt t p) (operandOf t p) (any isMark (take (insideOf t p) ms)) (any isMark (take (insideOf t p) rest))) rest)
+    (applied t p (transition sit (kindAt t p) (operandOf t p) (any isMark (take (insideOf t p) ms)) (any isMark (take (insideOf t p) rest))) rest)
     (0 ∷ rest)
 
 -- the marks from part p on after a settling: the parts inside a part are settled before it, and the marks before the settling say which are judged
 unfoldable pub settledFrom : List ℕ → Situation → ℕ → List ℕ → List ℕ
-settledFrom t s p [] = []
-settledFrom t s p (m ∷ ms) = settledPart t s p m ms (settledFrom t s (suc p) ms)
+settledFrom t sit p [] = []
+settledFrom t sit p (m ∷ ms) = settledPart t sit p m ms (settledFrom t sit (suc p) ms)
 
 -- "A marked START starts its clock at the last time unless that clock is already started"
 abbrev pub startsClock : ℕ → Entry → Bool
@@ -152,7 +152,7 @@ estimateAllowed v est = eqb (length est) v && all (λ x. leb x maxValue) est
 
 -- Beginning a run: "phase 0, last time 0, no clock started, the estimate stored, the root initialised"
 unfoldable pub freshRecord : List ℕ → List ℕ → List ℕ
-freshRecord t est = recordBytes waiting 0 est (replicate (clocks t) 0) (replicate (clocks t) 0) (fresh t 0)
+freshRecord t est = recordBytes waiting 0 est (replicate (clocks t) 0) (replicate (clocks t) 0) (initialMarks t 0)
 
 -- "Beginning 9, 13, 8"
 unfoldable pub beginRefusal : List ℕ → List ℕ → ℕ → ℕ

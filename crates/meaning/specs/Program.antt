@@ -6,7 +6,7 @@ use mathlib.Core.Option.{Option, none, some, Option·map}
 use mathlib.Core.List.{List, [], _∷_, _++_}
 use lib.Dec.{eqb, leb}
 use lib.ListN.{length, getD, take, drop}
-use Rattle.base.specs.Lists.{all, join, flat, tabulate, firstFailing}
+use Rattle.base.specs.Lists.{all, concat, flat, tabulate, firstFailing}
 use Rattle.meaning.specs.declared.Operand.{Operand}
 use Rattle.meaning.specs.declared.Entry.{Entry}
 use Rattle.meaning.specs.declared.Form.{Form}
@@ -43,13 +43,13 @@ unfoldable pub entries : Form → List ℕ → List Entry
 entries form s = tabulate (entryAt form s) 0 (parts s)
 
 unfoldable pub preorder : Part → List Entry
-preorder p = fold (λ k o es. record { kind = numberOf k; operand = o } ∷ join es) p
+preorder p = fold (λ k o es. record { kind = numberOf k; operand = o } ∷ concat es) p
 
-unfoldable pub knownEntry : Entry → Bool
-knownEntry e = known (kindOf (e .kind))
+unfoldable pub entryKnown : Entry → Bool
+entryKnown e = known (kindOf (e .kind))
 
-unfoldable pub allowedEntry : ℕ → ℕ → Entry → Bool
-allowedEntry v k e = operandAllowed v k (kindOf (e .kind)) (e .operand)
+unfoldable pub entryAllowed : ℕ → ℕ → Entry → Bool
+entryAllowed v k e = operandAllowed v k (kindOf (e .kind)) (e .operand)
 
 unfoldable pub arityOf : Entry → ℕ
 arityOf e = arity (kindOf (e .kind)) (e .operand)
@@ -79,22 +79,22 @@ ofSome part [] = none
 ofSome part (p ∷ ps) = some (part (group p ps))
 
 -- A part of a kind with an operand and children, where the kind takes so many
-unfoldable pub make : Kind → Operand → List Part → Option Part
-make UNKNOWN o ps = none
-make GOAL o ps = ofNone (goal o) ps
-make START o ps = ofNone (start o) ps
-make WAIT o ps = ofNone (wait o) ps
-make SEQ o ps = ofSome seq ps
-make PAR o ps = ofSome par ps
-make MAINTAIN o ps = ofOne (maintain o) ps
-make CHOICE o ps = ofTwo (choice o) ps
-make REPEAT o ps = ofOne repeat ps
+unfoldable pub makePart : Kind → Operand → List Part → Option Part
+makePart UNKNOWN o ps = none
+makePart GOAL o ps = ofNone (goal o) ps
+makePart START o ps = ofNone (start o) ps
+makePart WAIT o ps = ofNone (wait o) ps
+makePart SEQ o ps = ofSome seq ps
+makePart PAR o ps = ofSome par ps
+makePart MAINTAIN o ps = ofOne (maintain o) ps
+makePart CHOICE o ps = ofTwo (choice o) ps
+makePart REPEAT o ps = ofOne repeat ps
 
 -- A part stands before the parts that follow it, of which the first are its children; none where there are too few
-unfoldable pub place : Entry → List Part → Option (List Part)
-place e ps =
+unfoldable pub takeChildren : Entry → List Part → Option (List Part)
+takeChildren e ps =
     cond (leb (arityOf e) (length ps))
-    (Option·map (λ p. p ∷ drop (arityOf e) ps) (make (kindOf (e .kind)) (e .operand) (take (arityOf e) ps)))
+    (Option·map (λ p. p ∷ drop (arityOf e) ps) (makePart (kindOf (e .kind)) (e .operand) (take (arityOf e) ps)))
     none
 
 abbrev pub follow : {A B : Type 0} → (A → Option B) → Option A → Option B
@@ -104,7 +104,7 @@ follow f (some a) = f a
 -- The trees that the entries form, one after the other
 unfoldable pub trees : List Entry → Option (List Part)
 trees [] = some []
-trees (e ∷ es) = follow (place e) (trees es)
+trees (e ∷ es) = follow (takeChildren e) (trees es)
 
 -- "exactly one tree"
 abbrev pub single : List Part → Option Part
@@ -126,8 +126,8 @@ depthAllowed (some p) = leb (depth p) maxDepth
 -- Refusals 1 to 7, "each over all parts", in order: each number with the test that must pass
 abbrev pub partTests : Form → List ℕ → List (ℕ × Bool)
 partTests form s =
-    (unknownKind, all knownEntry (entries form s))
-    ∷ (operandNotAllowed, all (allowedEntry (variables s) (clocks s)) (entries form s))
+    (unknownKind, all entryKnown (entries form s))
+    ∷ (operandNotAllowed, all (entryAllowed (variables s) (clocks s)) (entries form s))
     ∷ (notOneTree, isTree (treeOf form s))
     ∷ (tooDeep, depthAllowed (treeOf form s))
     ∷ []
@@ -150,7 +150,7 @@ pub record Within (v k : ℕ) (p : Part) : Type 0 where
   pub clocks-fit : k ≤ maxClocks
   pub size-fits : size p ≤ maxParts
   pub depth-fits : depth p ≤ maxDepth
-  pub entries-allowed : all (allowedEntry v k) (preorder p) ≡ true
+  pub entries-allowed : all (entryAllowed v k) (preorder p) ≡ true
 
 -- The file of a tree with V variables and K clocks: "two parallel arrays: N kind bytes, then N operands"
 abbrev pub kindByte : Entry → List ℕ

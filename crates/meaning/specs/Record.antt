@@ -5,7 +5,7 @@ use mathlib.Core.List.{List, [], _∷_, _++_}
 use lib.Dec.{eqb, leb}
 use lib.ListN.{length, getD, take, replicate}
 use Rattle.base.specs.Lists.{all, any, flat, tabulate, flag, bytesAt}
-use Rattle.meaning.specs.Sizes.{maxParts, maxVariables, maxClocks, maxValue, timeWidth, littleEndian, valueFrom}
+use Rattle.meaning.specs.Sizes.{maxParts, maxVariables, maxClocks, maxValue, timeWidth, littleEndian, littleEndianValue}
 use Rattle.meaning.specs.Kinds.{Kind, UNKNOWN, GOAL, START, WAIT, SEQ, PAR, MAINTAIN, CHOICE, REPEAT}
 use Rattle.meaning.specs.Program.{parts, variables, clocks}
 use Rattle.meaning.specs.Table.{kindAt, parentAt, insideOf}
@@ -30,7 +30,7 @@ abbrev pub recordLength : ℕ
 recordLength = marksPlace + maxParts
 
 abbrev pub timeAt : List ℕ → ℕ → ℕ
-timeAt r i = valueFrom (getD r i 0) (bytesAt r (suc i) (timeWidth - 1))
+timeAt r i = littleEndianValue (getD r i 0) (bytesAt r (suc i) (timeWidth - 1))
 
 abbrev pub phaseOf : List ℕ → ℕ
 phaseOf r = getD r 0 0

@@ -84,9 +84,9 @@ abbrev pub littleEndian : ℕ → ℕ → List ℕ
 littleEndian zero x = []
 littleEndian (suc w) x = (x % byteValues) ∷ littleEndian w (x / byteValues)
 
-abbrev pub valueFrom : ℕ → List ℕ → ℕ
-valueFrom b [] = b
-valueFrom b (c ∷ cs) = b + byteValues * valueFrom c cs
+abbrev pub littleEndianValue : ℕ → List ℕ → ℕ
+littleEndianValue b [] = b
+littleEndianValue b (c ∷ cs) = b + byteValues * littleEndianValue c cs
 
 -- "Times are whole seconds of 32 bits", below `timeLimit`
 abbrev pub timeWidth : ℕ
@@ -100,4 +100,4 @@ abbrev pub numberBytes : ℕ → List ℕ
 numberBytes x = littleEndian numberWidth x
 
 abbrev pub numberAt : List ℕ → ℕ → ℕ
-numberAt s i = valueFrom (getD s i 0) (bytesAt s (suc i) (numberWidth - 1))
+numberAt s i = littleEndianValue (getD s i 0) (bytesAt s (suc i) (numberWidth - 1))

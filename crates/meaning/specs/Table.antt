@@ -107,16 +107,16 @@ unfoldable pub isTable : List ℕ → Bool
 isTable t = eqb (programRefusal File (fileIn t)) 0 && same (compiled File (fileIn t)) t
 
 -- "reading 1 to 7, each over all parts, then 8"; `room` is the output buffer's length
-unfoldable pub readRefusal : List ℕ → ℕ → ℕ
-readRefusal f room = cond (eqb (programRefusal File f) 0) (firstFailing ((bufferTooShort, leb (lengthOf Table (parts f)) room) ∷ [])) (programRefusal File f)
+unfoldable pub compileRefusal : List ℕ → ℕ → ℕ
+compileRefusal f room = cond (eqb (programRefusal File f) 0) (firstFailing ((bufferTooShort, leb (lengthOf Table (parts f)) room) ∷ [])) (programRefusal File f)
 
 -- what stands in the output buffer afterwards: "an output buffer's further bytes are untouched", and a refused call changes nothing
-unfoldable pub readInto : List ℕ → List ℕ → List ℕ
-readInto f out = cond (eqb (readRefusal f (length out)) 0) (sets out 0 (compiled File f)) out
+unfoldable pub compiledInto : List ℕ → List ℕ → List ℕ
+compiledInto f out = cond (eqb (compileRefusal f (length out)) 0) (sets out 0 (compiled File f)) out
 
 -- "Back to a file 9, 8"
-unfoldable pub writeRefusal : List ℕ → ℕ → ℕ
-writeRefusal t room = firstFailing ((notATable, isTable t) ∷ (bufferTooShort, leb (lengthOf File (parts t)) room) ∷ [])
+unfoldable pub decompileRefusal : List ℕ → ℕ → ℕ
+decompileRefusal t room = firstFailing ((notATable, isTable t) ∷ (bufferTooShort, leb (lengthOf File (parts t)) room) ∷ [])
 
-unfoldable pub writtenInto : List ℕ → List ℕ → List ℕ
-writtenInto t out = cond (eqb (writeRefusal t (length out)) 0) (sets out 0 (fileIn t)) out
+unfoldable pub decompiledInto : List ℕ → List ℕ → List ℕ
+decompiledInto t out = cond (eqb (decompileRefusal t (length out)) 0) (sets out 0 (fileIn t)) out

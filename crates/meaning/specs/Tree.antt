@@ -23,8 +23,8 @@ listOf (one p) = p ∷ []
 listOf (more p ps) = p ∷ listOf ps
 
 -- the operand of a SEQ or PAR is its child count, that of a REPEAT all 0
-abbrev pub counted : ℕ → Operand
-counted n = record { b0 = n; b1 = 0; b2 = 0; b3 = 0 }
+abbrev pub countOperand : ℕ → Operand
+countOperand n = record { b0 = n; b1 = 0; b2 = 0; b3 = 0 }
 
 abbrev pub kind : Part → Kind
 kind (goal o) = GOAL
@@ -54,11 +54,11 @@ abbrev pub operand : Part → Operand
 operand (goal o) = o
 operand (start o) = o
 operand (wait o) = o
-operand (seq ps) = counted (count ps)
-operand (par ps) = counted (count ps)
+operand (seq ps) = countOperand (count ps)
+operand (par ps) = countOperand (count ps)
 operand (maintain o p) = o
 operand (choice o p q) = o
-operand (repeat p) = counted 0
+operand (repeat p) = countOperand 0
 
 -- "A part's meaning is made of the meanings of its children": what a part comes to, from its kind, its operand and what its children come to
 unfoldable mutual
@@ -66,11 +66,11 @@ unfoldable mutual
   fold f (goal o) = f GOAL o []
   fold f (start o) = f START o []
   fold f (wait o) = f WAIT o []
-  fold f (seq ps) = f SEQ (counted (count ps)) (foldAll f ps)
-  fold f (par ps) = f PAR (counted (count ps)) (foldAll f ps)
+  fold f (seq ps) = f SEQ (countOperand (count ps)) (foldAll f ps)
+  fold f (par ps) = f PAR (countOperand (count ps)) (foldAll f ps)
   fold f (maintain o p) = f MAINTAIN o (fold f p ∷ [])
   fold f (choice o p q) = f CHOICE o (fold f p ∷ fold f q ∷ [])
-  fold f (repeat p) = f REPEAT (counted 0) (fold f p ∷ [])
+  fold f (repeat p) = f REPEAT (countOperand 0) (fold f p ∷ [])
 
   pub foldAll : {A : Type 0} → (Kind → Operand → List A → A) → Parts → List A
   foldAll f (one p) = fold f p ∷ []

@@ -48,14 +48,14 @@ pub enum Outcome {
 
 // What becomes of a marked part at a settling: it stays marked, it ends, or it is a CHOICE that takes
 // its first or its second child.
-pub enum Fate {
+pub enum Transition {
     Stays,
     Ends,
     First,
     Second,
 }
 
-// Why a call is refused.
+// Why a call is refused: the names of the numbers in specs/Answers.antt and in the header.
 pub enum Refusal {
     FileTooShort,
     SizeOutOfRange,

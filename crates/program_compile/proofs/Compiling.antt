@@ -17,20 +17,20 @@ use Rattle.meaning.specs.declared.Answer.the-variants.{Refused}
 use Rattle.meaning.specs.Sizes.{noPart, headerLength, lengthOf, bytesAt}
 use Rattle.meaning.specs.Tree.{Part, size}
 use Rattle.meaning.specs.Program.{parts, variables, clocks, sizeBytes, entries, isTree, programRefusal, operandBytes, entryAt}
-use Rattle.meaning.specs.Table.{Row, linkBytes, rowBytes, block, tableOf, compiled, readRefusal, readInto}
+use Rattle.meaning.specs.Table.{Row, linkBytes, rowBytes, block, tableOf, compiled, compileRefusal, compiledInto}
 use Rattle.meaning.specs.Answers.{answerNumber, bufferTooShort}
 use Rattle.meaning.proofs.Answers.{is-refused}
 use Rattle.meaning.proofs.Files.{Holds, accepted, sizes-back}
 use Rattle.meaning.proofs.Tables.{rows-entries, compiled-is, rowEntry}
 use Rattle.program_walk.specs.Walk.{OneTree, partAt}
-use Rattle.program_rows.specs.Rows.{rowsOf, heldRows}
+use Rattle.program_rows.specs.Rows.{rowsOf, linkedRows}
 use Rattle.program_walk.proofs.Standing.{Alone, alone, alone-part}
 use Rattle.meaning.specs.declared.Entry.{Entry}
 use Rattle.meaning.proofs.Refusals.{effect}
 
 -- The rows that the code writes are the rows of the table, where the entries are theirs
-held-rows : (s : List ℕ) (rows : List Row) (q n : ℕ) → map rowEntry rows ≡ tabulate (entryAt File s) q n → heldRows s q rows ≡ flat rowBytes rows
-unfolding heldRows
+held-rows : (s : List ℕ) (rows : List Row) (q n : ℕ) → map rowEntry rows ≡ tabulate (entryAt File s) q n → linkedRows s q rows ≡ flat rowBytes rows
+unfolding linkedRows
 held-rows s [] q zero d = refl
 held-rows s [] q (suc n) d = cc
 held-rows s (r ∷ rs) q zero d = cc
@@ -81,27 +81,27 @@ read-fits f n m room h n-is m-is l = (h, omega (arith, m-is ∙ ap (lengthOf Tab
 
 -- Reading, at each of its answers
 module _ (f out : List ℕ) where
-  abbrev Read : ℕ → List ℕ → Type 0
-  Read n out₁ = (n ≡ readRefusal f (length out)) × (out₁ ≡ readInto f out)
+  abbrev CompiledAs : ℕ → List ℕ → Type 0
+  CompiledAs n out₁ = (n ≡ compileRefusal f (length out)) × (out₁ ≡ compiledInto f out)
 
-  pub read-refused : (a : Answer) (r : Refusal) → answerNumber a ≡ programRefusal File f → a ≡ Refused r → Read (answerNumber a) out
-  unfolding readRefusal readInto
-  read-refused a r e d =
-      effect (answerNumber a) (readRefusal f (length out)) (sets out 0 (compiled File f)) out out
+  pub compile-refused : (a : Answer) (r : Refusal) → answerNumber a ≡ programRefusal File f → a ≡ Refused r → CompiledAs (answerNumber a) out
+  unfolding compileRefusal compiledInto
+  compile-refused a r e d =
+      effect (answerNumber a) (compileRefusal f (length out)) (sets out 0 (compiled File f)) out out
       (e ∙ rw (ne-eqb (programRefusal File f) 0 (is-refused a r (programRefusal File f) e d)))
       (rw (ne-eqb (answerNumber a) 0 (is-refused a r (answerNumber a) refl d)))
 
   module _ (n m : ℕ) (h : programRefusal File f ≡ 0) (n-is : n ≡ parts f) (m-is : m ≡ lengthOf Table n) where
-    pub read-short : length out < m → Read bufferTooShort out
-    unfolding readRefusal readInto
-    read-short l =
-        effect bufferTooShort (readRefusal f (length out)) (sets out 0 (compiled File f)) out out
+    pub compile-short : length out < m → CompiledAs bufferTooShort out
+    unfolding compileRefusal compiledInto
+    compile-short l =
+        effect bufferTooShort (compileRefusal f (length out)) (sets out 0 (compiled File f)) out out
         (rw (h, lt-leb (lengthOf Table (parts f)) (length out) (omega (arith, m-is ∙ ap (lengthOf Table) n-is))))
         refl
 
-    pub read-done : (out₁ : List ℕ) → m ≤ length out → out₁ ≡ sets out 0 (compiled File f) → Read 0 out₁
-    unfolding readRefusal readInto
-    read-done out₁ l w =
-        effect 0 (readRefusal f (length out)) (sets out 0 (compiled File f)) out out₁
+    pub compile-done : (out₁ : List ℕ) → m ≤ length out → out₁ ≡ sets out 0 (compiled File f) → CompiledAs 0 out₁
+    unfolding compileRefusal compiledInto
+    compile-done out₁ l w =
+        effect 0 (compileRefusal f (length out)) (sets out 0 (compiled File f)) out out₁
         (rw (h, le-leb (lengthOf Table (parts f)) (length out) (omega (arith, m-is ∙ ap (lengthOf Table) n-is))))
         w

@@ -1,12 +1,12 @@
-// The operation that compiles: a program file is read into its location table (1 to 8).
+// The operation that compiles: it writes the location table of a program file (1 to 8).
 use base::copy;
 use meaning::Answer;
 use meaning::Form;
 use meaning::Refusal;
 use meaning::sizes::HEADER;
-use program_part::held::length_of;
-use program_part::held::parts;
-use program_refusals::examine;
+use program_part::layout::length_of;
+use program_part::layout::parts;
+use program_refusals::program_refusal;
 use program_rows::writing::write_rows;
 ghost use mathlib.Core.Path.{_≡_};
 ghost use Prim.Native.Nat.{_≤_};
@@ -15,15 +15,15 @@ ghost use lib.Seq.{sets};
 ghost use Rattle.meaning.specs.declared.Form.the-variants.{File, Table};
 ghost use Rattle.meaning.specs.Sizes.{lengthOf};
 ghost use Rattle.meaning.specs.Program.{parts, programRefusal};
-ghost use Rattle.meaning.specs.Table.{compiled, readRefusal, readInto};
+ghost use Rattle.meaning.specs.Table.{compiled, compileRefusal, compiledInto};
 ghost use Rattle.meaning.specs.Answers.{answerNumber};
 
-// Reads a program file into its location table: refusals 1 to 7, then 8.
+// Compiles a program file into its location table: refusals 1 to 7, then 8.
 pub fn compile(file: &[u8], table: &mut [u8]) -> Answer
-    ensures { λ r. ⌜ answerNumber r ≡ readRefusal (now (file .entry)) (length (now (table .entry))) ⌝ }
-    ensures { λ _. ⌜ now (table .exit) ≡ readInto (now (file .entry)) (now (table .entry)) ⌝ }
+    ensures { λ r. ⌜ answerNumber r ≡ compileRefusal (now (file .entry)) (length (now (table .entry))) ⌝ }
+    ensures { λ _. ⌜ now (table .exit) ≡ compiledInto (now (file .entry)) (now (table .entry)) ⌝ }
 {
-    let answer = examine(file);
+    let answer = program_refusal(file);
     let Answer::Done = answer else {
         return answer;
     };

@@ -13,13 +13,13 @@ use Rattle.base.proofs.Stores.{sets-append}
 use Rattle.meaning.specs.declared.Form.the-variants.{File, Table}
 use Rattle.meaning.specs.Sizes.{headerLength, lengthOf, bytesAt}
 use Rattle.meaning.specs.Program.{parts, entries, kindByte, entryOperand, arrays}
-use Rattle.meaning.specs.Table.{fileIn, isTable, writeRefusal, writtenInto}
+use Rattle.meaning.specs.Table.{fileIn, isTable, decompileRefusal, decompiledInto}
 use Rattle.meaning.specs.Answers.{bufferTooShort, notATable}
 use Rattle.meaning.proofs.Files.{length-entries}
 use Rattle.meaning.proofs.Tables.{table-held}
 use Rattle.meaning.proofs.Refusals.{effect}
 
--- The bytes that are given back: the sizes, then the two arrays
+-- The bytes of the file: the sizes, then the two arrays
 pub arrays-written : (t out out₁ out₂ : List ℕ) → out₁ ≡ sets out headerLength (flat kindByte (entries Table t)) → out₂ ≡ sets out₁ (headerLength + parts t) (flat entryOperand (entries Table t))
     → out₂ ≡ sets out headerLength (arrays (entries Table t))
 arrays-written t out out₁ out₂ h₁ h₂ =
@@ -37,24 +37,24 @@ write-fits t b n m room b-is d n-is m-is l = (omega (arith, table-held t (sym b-
 
 -- Giving back, at each of its answers
 module _ (t out : List ℕ) (b : Bool) (b-is : b ≡ isTable t) where
-  abbrev Written : ℕ → List ℕ → Type 0
-  Written n out₁ = (n ≡ writeRefusal t (length out)) × (out₁ ≡ writtenInto t out)
+  abbrev DecompiledAs : ℕ → List ℕ → Type 0
+  DecompiledAs n out₁ = (n ≡ decompileRefusal t (length out)) × (out₁ ≡ decompiledInto t out)
 
-  pub write-refused : not b ≡ true → Written notATable out
-  unfolding writeRefusal writtenInto
-  write-refused d = effect notATable (writeRefusal t (length out)) (sets out 0 (fileIn t)) out out (rw (sym b-is ∙ not-true b d)) refl
+  pub decompile-refused : not b ≡ true → DecompiledAs notATable out
+  unfolding decompileRefusal decompiledInto
+  decompile-refused d = effect notATable (decompileRefusal t (length out)) (sets out 0 (fileIn t)) out out (rw (sym b-is ∙ not-true b d)) refl
 
   module _ (n m : ℕ) (d : not b ≡ false) (n-is : n ≡ parts t) (m-is : m ≡ lengthOf File n) where
-    pub write-short : length out < m → Written bufferTooShort out
-    unfolding writeRefusal writtenInto
-    write-short l =
-        effect bufferTooShort (writeRefusal t (length out)) (sets out 0 (fileIn t)) out out
+    pub decompile-short : length out < m → DecompiledAs bufferTooShort out
+    unfolding decompileRefusal decompiledInto
+    decompile-short l =
+        effect bufferTooShort (decompileRefusal t (length out)) (sets out 0 (fileIn t)) out out
         (rw (sym b-is ∙ not-false b d, lt-leb (lengthOf File (parts t)) (length out) (omega (arith, m-is ∙ ap (lengthOf File) n-is))))
         refl
 
-    pub write-done : (out₁ : List ℕ) → m ≤ length out → out₁ ≡ sets out 0 (fileIn t) → Written 0 out₁
-    unfolding writeRefusal writtenInto
-    write-done out₁ l w =
-        effect 0 (writeRefusal t (length out)) (sets out 0 (fileIn t)) out out₁
+    pub decompile-done : (out₁ : List ℕ) → m ≤ length out → out₁ ≡ sets out 0 (fileIn t) → DecompiledAs 0 out₁
+    unfolding decompileRefusal decompiledInto
+    decompile-done out₁ l w =
+        effect 0 (decompileRefusal t (length out)) (sets out 0 (fileIn t)) out out₁
         (rw (sym b-is ∙ not-false b d, le-leb (lengthOf File (parts t)) (length out) (omega (arith, m-is ∙ ap (lengthOf File) n-is))))
         w

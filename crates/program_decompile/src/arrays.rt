@@ -1,9 +1,9 @@
 // The two arrays of a program file, written from a table's rows where there is room for them.
 use base::store;
 use meaning::Form;
-use program_part::held::kind_place;
-use program_part::held::operand_place;
-use program_part::held::parts;
+use program_part::layout::kind_place;
+use program_part::layout::operand_place;
+use program_part::layout::parts;
 use program_rows::rows::put_operand;
 use program_walk::walker::entry_at;
 ghost use mathlib.Core.Path.{_≡_};

@@ -1,4 +1,4 @@
-// The operation that decompiles: the program file that a location table holds is given back (9, 8).
+// The operation that decompiles: it writes the program file of a location table (9, 8).
 pub mod arrays;
 
 use crate::arrays::write_arrays;
@@ -7,8 +7,8 @@ use meaning::Answer;
 use meaning::Form;
 use meaning::Refusal;
 use meaning::sizes::HEADER;
-use program_part::held::length_of;
-use program_part::held::parts;
+use program_part::layout::length_of;
+use program_part::layout::parts;
 use program_table::is_table;
 ghost use mathlib.Core.Path.{_≡_};
 ghost use Prim.Native.Nat.{_≤_};
@@ -17,13 +17,13 @@ ghost use lib.Seq.{sets};
 ghost use Rattle.meaning.specs.declared.Form.the-variants.{File, Table};
 ghost use Rattle.meaning.specs.Sizes.{lengthOf};
 ghost use Rattle.meaning.specs.Program.{parts};
-ghost use Rattle.meaning.specs.Table.{fileIn, writeRefusal, writtenInto};
+ghost use Rattle.meaning.specs.Table.{fileIn, decompileRefusal, decompiledInto};
 ghost use Rattle.meaning.specs.Answers.{answerNumber};
 
-// Gives back the file that a location table holds: refusals 9, then 8.
+// Decompiles a location table into the file that it holds: refusals 9, then 8.
 pub fn decompile(table: &[u8], file: &mut [u8]) -> Answer
-    ensures { λ r. ⌜ answerNumber r ≡ writeRefusal (now (table .entry)) (length (now (file .entry))) ⌝ }
-    ensures { λ _. ⌜ now (file .exit) ≡ writtenInto (now (table .entry)) (now (file .entry)) ⌝ }
+    ensures { λ r. ⌜ answerNumber r ≡ decompileRefusal (now (table .entry)) (length (now (file .entry))) ⌝ }
+    ensures { λ _. ⌜ now (file .exit) ≡ decompiledInto (now (table .entry)) (now (file .entry)) ⌝ }
 {
     if !is_table(table) {
         return Answer::Refused(Refusal::NotATable);

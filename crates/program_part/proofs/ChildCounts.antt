@@ -9,7 +9,7 @@ use Rattle.meaning.specs.declared.Operand.{Operand}
 use Rattle.meaning.specs.declared.Entry.{Entry}
 use Rattle.meaning.specs.Sizes.{maxValue}
 use Rattle.meaning.specs.Kinds.{kindOf, arity, value, testOf, testAllowed, conditionAllowed, countAllowed, operandAllowed}
-use Rattle.meaning.specs.Program.{allowedEntry, arityOf}
+use Rattle.meaning.specs.Program.{entryAllowed, arityOf}
 use Rattle.program_part.specs.declared.kinds.Children.{Children}
 use Rattle.program_part.specs.declared.kinds.Children.the-variants.{Count, NotAllowed}
 use Rattle.program_part.specs.Children.{countIf, ofCondition, childrenOf}
@@ -86,11 +86,11 @@ module _ (v k : ℕ) (o : Operand) where
 
   module _ (b : ℕ) (c : Children) where
     pub is-counted : c ≡ countIf (countAllowed o) (o .b0) → 4 ≤ b → b < 6 → c ≡ childrenOf v k (record { kind = b; operand = o })
-    unfolding childrenOf allowedEntry arityOf
+    unfolding childrenOf entryAllowed arityOf
     is-counted e l h = rw (e, counts b l h)
 
     pub has-condition : c ≡ ofCondition b (conditionAllowed v k o) → (b ≡ 1 → ⊥) → (b ≡ 2 → ⊥) → (b ≡ 8 → ⊥) → (b < 4) ⊎ (6 ≤ b) → c ≡ childrenOf v k (record { kind = b; operand = o })
-    unfolding childrenOf allowedEntry arityOf
+    unfolding childrenOf entryAllowed arityOf
     has-condition e n₁ n₂ n₈ h = rw (e, conditions b n₁ n₂ n₈ h)
 
 pub no-condition : (b : ℕ) (allowed : Bool) → (b ≡ 3 → ⊥) → (b ≡ 6 → ⊥) → (b ≡ 7 → ⊥) → NotAllowed ≡ ofCondition b allowed
@@ -113,17 +113,17 @@ Told NotAllowed = Unit
 
 -- whether an operand is allowed, by the children that it says
 module _ (v k : ℕ) (e : Entry) (c : Children) (c-is : c ≡ childrenOf v k e) where
-  pub allowed-counted : (n : ℕ) → c ≡ Count n → true ≡ allowedEntry v k e
+  pub allowed-counted : (n : ℕ) → c ≡ Count n → true ≡ entryAllowed v k e
   unfolding childrenOf
-  allowed-counted n d = go (allowedEntry v k e) (sym c-is ∙ d)
+  allowed-counted n d = go (entryAllowed v k e) (sym c-is ∙ d)
     where
       go : (a : Bool) → countIf a (arityOf e) ≡ Count n → true ≡ a
       go true h = refl
       go false h = absurd (subst Told h tt)
 
-  pub allowed-refused : c ≡ NotAllowed → false ≡ allowedEntry v k e
+  pub allowed-refused : c ≡ NotAllowed → false ≡ entryAllowed v k e
   unfolding childrenOf
-  allowed-refused d = go (allowedEntry v k e) (sym c-is ∙ d)
+  allowed-refused d = go (entryAllowed v k e) (sym c-is ∙ d)
     where
       go : (a : Bool) → countIf a (arityOf e) ≡ NotAllowed → false ≡ a
       go false h = refl

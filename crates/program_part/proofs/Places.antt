@@ -5,7 +5,7 @@ use mathlib.Core.Path.{_≡_}
 use mathlib.Core.Bool.{true}
 use mathlib.Core.List.{List}
 use lib.ListN.{getD, length}
-use Rattle.program_part.specs.Held.{Held}
+use Rattle.program_part.specs.Readable.{Readable}
 use Rattle.meaning.specs.declared.Operand.{Operand}
 use Rattle.meaning.specs.declared.Form.{Form}
 use Rattle.meaning.specs.declared.Form.the-variants.{File, Table}
@@ -19,15 +19,15 @@ pub entry-held : (form : Form) (s : List ℕ) (n p i j k : ℕ) (o : Operand) �
 entry-held form s n p i j k o n-is i-is k-is j-is o-is = rw (o-is, j-is, k-is, i-is, n-is)
 
 -- the places of an entry that is held
-pub first-inside : (form : Form) (s : List ℕ) (p : ℕ) → Held form s p → 0 < length s
+pub first-inside : (form : Form) (s : List ℕ) (p : ℕ) → Readable form s p → 0 < length s
 first-inside File s p h = omega (arith, h .long)
 first-inside Table s p h = omega (arith, h .long)
 
-pub kind-inside : (form : Form) (s : List ℕ) (n p k : ℕ) → Held form s p → n ≡ parts s → k ≡ kindPlace form n p → k < length s
+pub kind-inside : (form : Form) (s : List ℕ) (n p k : ℕ) → Readable form s p → n ≡ parts s → k ≡ kindPlace form n p → k < length s
 kind-inside File s n p k h n-is k-is = omega (arith, h .long, h .there)
 kind-inside Table s n p k h n-is k-is = omega (arith, h .long, h .there)
 
-pub operand-inside : (form : Form) (s : List ℕ) (n p j : ℕ) → Held form s p → n ≡ parts s → j ≡ operandPlace form n p → j + operandLength ≤ length s
+pub operand-inside : (form : Form) (s : List ℕ) (n p j : ℕ) → Readable form s p → n ≡ parts s → j ≡ operandPlace form n p → j + operandLength ≤ length s
 operand-inside File s n p j h n-is j-is = omega (arith, h .long, h .there)
 operand-inside Table s n p j h n-is j-is = omega (arith, h .long, h .there)
 
@@ -37,5 +37,5 @@ parts-fit t table =
     let x = table-held t table in
     omega (arith, x .1 .parts-are, x .1 .within .size-fits)
 
-pub row-held : (t : List ℕ) (p : ℕ) → isTable t ≡ true → p < parts t → Held Table t p
-row-held t p table there = record { long = omega (arith, table-held t table .1 .length-is); there = there }
+pub row-readable : (t : List ℕ) (p : ℕ) → isTable t ≡ true → p < parts t → Readable Table t p
+row-readable t p table there = record { long = omega (arith, table-held t table .1 .length-is); there = there }

@@ -3,7 +3,7 @@ use Prim.Native.Nat.{ℕ}
 use mathlib.Core.Bool.{Bool, cond}
 use Rattle.meaning.specs.declared.Entry.{Entry}
 use Rattle.meaning.specs.Kinds.{Kind, UNKNOWN, GOAL, START, WAIT, SEQ, PAR, MAINTAIN, CHOICE, REPEAT, kindOf}
-use Rattle.meaning.specs.Program.{allowedEntry, arityOf}
+use Rattle.meaning.specs.Program.{entryAllowed, arityOf}
 use Rattle.program_part.specs.declared.kinds.Children.{Children}
 use Rattle.program_part.specs.declared.kinds.Children.the-variants.{Count, NotAllowed}
 
@@ -11,7 +11,7 @@ abbrev pub countIf : Bool → ℕ → Children
 countIf allowed n = cond allowed (Count n) NotAllowed
 
 unfoldable pub childrenOf : ℕ → ℕ → Entry → Children
-childrenOf v k e = countIf (allowedEntry v k e) (arityOf e)
+childrenOf v k e = countIf (entryAllowed v k e) (arityOf e)
 
 -- of a part of a kind with a condition
 unfoldable pub ofCondition : ℕ → Bool → Children

@@ -19,11 +19,11 @@ use meaning::sizes::BYTE_VALUES;
 use meaning::sizes::MAX_VALUE;
 ghost use mathlib.Core.Path.{_≡_};
 ghost use Rattle.meaning.specs.Kinds.{value, conditionAllowed, goalAllowed, startAllowed, countAllowed, emptyAllowed};
-ghost use Rattle.meaning.specs.Program.{knownEntry, allowedEntry, arityOf};
+ghost use Rattle.meaning.specs.Program.{entryKnown, entryAllowed, arityOf};
 ghost use Rattle.program_part.specs.Children.{countIf, ofCondition, childrenOf};
 
-pub fn is_known(e: Entry) -> bool
-    ensures { λ r. ⌜ r ≡ knownEntry e ⌝ }
+pub fn entry_known(e: Entry) -> bool
+    ensures { λ r. ⌜ r ≡ entryKnown e ⌝ }
 {
     (GOAL <= e.kind) & (e.kind <= REPEAT)
 }
@@ -51,31 +51,31 @@ pub fn value(o: Operand) -> u16
     (o.b2 as u16) + (BYTE_VALUES as u16) * (o.b3 as u16)
 }
 
-fn is_goal(variables: u8, o: Operand) -> bool
+fn goal_allowed(variables: u8, o: Operand) -> bool
     ensures { λ r. ⌜ r ≡ goalAllowed variables o ⌝ }
 {
     (o.b0 == 0) & ((o.b1 < variables) & (value(o) <= MAX_VALUE))
 }
 
-fn is_start(clocks: u8, o: Operand) -> bool
+fn start_allowed(clocks: u8, o: Operand) -> bool
     ensures { λ r. ⌜ r ≡ startAllowed clocks o ⌝ }
 {
     (o.b0 == 0) & ((o.b1 < clocks) & (value(o) == 0))
 }
 
-fn is_count(o: Operand) -> bool
+fn count_allowed(o: Operand) -> bool
     ensures { λ r. ⌜ r ≡ countAllowed o ⌝ }
 {
     (o.b0 != 0) & ((o.b1 == 0) & (value(o) == 0))
 }
 
-fn is_empty(o: Operand) -> bool
+fn empty_allowed(o: Operand) -> bool
     ensures { λ r. ⌜ r ≡ emptyAllowed o ⌝ }
 {
     (o.b0 == 0) & ((o.b1 == 0) & (value(o) == 0))
 }
 
-pub fn is_condition(variables: u8, clocks: u8, o: Operand) -> bool
+pub fn condition_allowed(variables: u8, clocks: u8, o: Operand) -> bool
     ensures { λ r. ⌜ r ≡ conditionAllowed variables clocks o ⌝ }
 {
     let test = o.b0;
@@ -122,16 +122,16 @@ pub fn children_of(variables: u8, clocks: u8, e: Entry) -> Children
     let kind = e.kind;
     let o = e.operand;
     match kind {
-        GOAL => count_if(is_goal(variables, o), 0),
-        START => count_if(is_start(clocks, o), 0),
-        SEQ | PAR => count_if(is_count(o), o.b0),
-        REPEAT => count_if(is_empty(o), 1),
-        _ => of_condition(kind, is_condition(variables, clocks, o)),
+        GOAL => count_if(goal_allowed(variables, o), 0),
+        START => count_if(start_allowed(clocks, o), 0),
+        SEQ | PAR => count_if(count_allowed(o), o.b0),
+        REPEAT => count_if(empty_allowed(o), 1),
+        _ => of_condition(kind, condition_allowed(variables, clocks, o)),
     }
 }
 
-pub fn is_allowed(variables: u8, clocks: u8, e: Entry) -> bool
-    ensures { λ r. ⌜ r ≡ allowedEntry variables clocks e ⌝ }
+pub fn entry_allowed(variables: u8, clocks: u8, e: Entry) -> bool
+    ensures { λ r. ⌜ r ≡ entryAllowed variables clocks e ⌝ }
 {
     match children_of(variables, clocks, e) {
         Children::Count(_) => true,

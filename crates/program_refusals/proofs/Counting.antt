@@ -14,7 +14,7 @@ use Rattle.meaning.specs.declared.Entry.{Entry}
 use Rattle.meaning.specs.declared.Form.{Form}
 use Rattle.meaning.specs.Kinds.{Kind, UNKNOWN, GOAL, START, WAIT, SEQ, PAR, MAINTAIN, CHOICE, REPEAT, kindOf, known, operandAllowed}
 use Rattle.meaning.specs.Tree.{Part, children}
-use Rattle.meaning.specs.Program.{entries, knownEntry, allowedEntry, arityOf, place, follow, trees, single, treeOf, isTree}
+use Rattle.meaning.specs.Program.{entries, entryKnown, entryAllowed, arityOf, takeChildren, follow, trees, single, treeOf, isTree}
 use Rattle.meaning.proofs.Parsing.{Placed, placed, makes}
 use Rattle.program_refusals.specs.Counting.{fills}
 
@@ -26,29 +26,29 @@ placed-length e ps qs w = omega (arith, ap length (w .result), ap length (w .inn
 abbrev Forms : List Entry → ℕ → Type 0
 Forms es n = (ps : List Part) × (trees es ≡ some ps) × (length ps ≡ n)
 
-form-more : (v k : ℕ) (e : Entry) (es : List Entry) (due : ℕ) → knownEntry e ≡ true → allowedEntry v k e ≡ true → (due ≡ 0 → ⊥) → Forms es (due - 1 + arityOf e) → Forms (e ∷ es) due
+form-more : (v k : ℕ) (e : Entry) (es : List Entry) (remaining : ℕ) → entryKnown e ≡ true → entryAllowed v k e ≡ true → (remaining ≡ 0 → ⊥) → Forms es (remaining - 1 + arityOf e) → Forms (e ∷ es) remaining
 unfolding trees
-form-more v k e es due known allowed some-due w =
-    let q : (qs : List Part) × (place e (w .0) ≡ some qs) = makes e v k (w .0) known allowed (omega arith) in
+form-more v k e es remaining known allowed some-remaining w =
+    let q : (qs : List Part) × (takeChildren e (w .0) ≡ some qs) = makes e v k (w .0) known allowed (omega arith) in
     (q .0, rw (w .1) (q .1), omega (arith, placed-length e (w .0) (q .0) (placed e (w .0) (q .0) (q .1))))
 
 all-cons : (f : Entry → Bool) (e : Entry) (es : List Entry) → all f (e ∷ es) ≡ true → (f e ≡ true) × (all f es ≡ true)
 all-cons f e es h = and-eq-true-iff (f e) (all f es) .0 h
 
-fills-cons : (e : Entry) (es : List Entry) (due : ℕ) → fills (e ∷ es) due ≡ true → (due ≡ 0 → ⊥) × (fills es (due - 1 + arityOf e) ≡ true)
+fills-cons : (e : Entry) (es : List Entry) (remaining : ℕ) → fills (e ∷ es) remaining ≡ true → (remaining ≡ 0 → ⊥) × (fills es (remaining - 1 + arityOf e) ≡ true)
 unfolding fills
-fills-cons e es due f =
-    let both = and-eq-true-iff (not (eqb due 0)) (fills es (due - 1 + arityOf e)) .0 f in
-    (eqb-false due 0 (not-true (eqb due 0) (both .0)), both .1)
+fills-cons e es remaining f =
+    let both = and-eq-true-iff (not (eqb remaining 0)) (fills es (remaining - 1 + arityOf e)) .0 f in
+    (eqb-false remaining 0 (not-true (eqb remaining 0) (both .0)), both .1)
 
-pub fills-trees : (v k : ℕ) (es : List Entry) (due : ℕ) → all knownEntry es ≡ true → all (allowedEntry v k) es ≡ true → fills es due ≡ true → Forms es due
+pub fills-trees : (v k : ℕ) (es : List Entry) (remaining : ℕ) → all entryKnown es ≡ true → all (entryAllowed v k) es ≡ true → fills es remaining ≡ true → Forms es remaining
 unfolding fills trees
-fills-trees v k [] due known allowed f = ([], refl, sym (eqb-true due 0 f))
-fills-trees v k (e ∷ es) due known allowed f =
-    let n = all-cons knownEntry e es known in
-    let a = all-cons (allowedEntry v k) e es allowed in
-    let d = fills-cons e es due f in
-    form-more v k e es due (n .0) (a .0) (d .0) (fills-trees v k es (due - 1 + arityOf e) (n .1) (a .1) (d .1))
+fills-trees v k [] remaining known allowed f = ([], refl, sym (eqb-true remaining 0 f))
+fills-trees v k (e ∷ es) remaining known allowed f =
+    let n = all-cons entryKnown e es known in
+    let a = all-cons (entryAllowed v k) e es allowed in
+    let d = fills-cons e es remaining f in
+    form-more v k e es remaining (n .0) (a .0) (d .0) (fills-trees v k es (remaining - 1 + arityOf e) (n .1) (a .1) (d .1))
 
 fills-more : (e : Entry) (es : List Entry) (ps qs : List Part) → fills es (length qs) ≡ true → Placed e qs ps → fills (e ∷ es) (length ps) ≡ true
 unfolding fills
@@ -62,7 +62,7 @@ unfolding fills trees
 trees-fill [] ps t = let n : ps ≡ [] = cc in rw n
 trees-fill (e ∷ es) ps t = go (trees es) (λ qs q. trees-fill es qs q) refl t
   where
-    go : (m : Option (List Part)) → ((qs : List Part) → trees es ≡ some qs → fills es (length qs) ≡ true) → trees es ≡ m → follow (place e) m ≡ some ps → fills (e ∷ es) (length ps) ≡ true
+    go : (m : Option (List Part)) → ((qs : List Part) → trees es ≡ some qs → fills es (length qs) ≡ true) → trees es ≡ m → follow (takeChildren e) m ≡ some ps → fills (e ∷ es) (length ps) ≡ true
     go none ih q h = absurd (Option·none-ne-some ps h)
     go (some qs) ih q h = fills-more e es ps qs (ih qs q) (placed e qs ps h)
 
@@ -78,7 +78,7 @@ single-other (some []) h = refl
 single-other (some (p ∷ [])) h = absurd (h (p ∷ []) refl refl)
 single-other (some (p ∷ q ∷ ps)) h = refl
 
-pub one-tree : (v k : ℕ) (form : Form) (s : List ℕ) → all knownEntry (entries form s) ≡ true → all (allowedEntry v k) (entries form s) ≡ true → isTree (treeOf form s) ≡ fills (entries form s) 1
+pub one-tree : (v k : ℕ) (form : Form) (s : List ℕ) → all entryKnown (entries form s) ≡ true → all (entryAllowed v k) (entries form s) ≡ true → isTree (treeOf form s) ≡ fills (entries form s) 1
 unfolding treeOf
 one-tree v k form s known allowed = go (fills (entries form s) 1) refl
   where
@@ -87,8 +87,8 @@ one-tree v k form s known allowed = go (fills (entries form s) 1) refl
     go false f = single-other (trees (entries form s)) (λ ps t l. false≢true (sym f ∙ (rw l at (trees-fill (entries form s) ps t))))
 
 -- an operand that is allowed is that of a kind that is known
-allowed-known : (v k : ℕ) (e : Entry) → allowedEntry v k e ≡ true → knownEntry e ≡ true
-unfolding allowedEntry knownEntry operandAllowed known
+allowed-known : (v k : ℕ) (e : Entry) → entryAllowed v k e ≡ true → entryKnown e ≡ true
+unfolding entryAllowed entryKnown operandAllowed known
 allowed-known v k e h = go (kindOf (e .kind)) h
   where
     go : (x : Kind) → operandAllowed v k x (e .operand) ≡ true → known x ≡ true
@@ -102,7 +102,7 @@ allowed-known v k e h = go (kindOf (e .kind)) h
     go CHOICE f = refl
     go REPEAT f = refl
 
-pub all-known : (v k : ℕ) (es : List Entry) → all (allowedEntry v k) es ≡ true → all knownEntry es ≡ true
+pub all-known : (v k : ℕ) (es : List Entry) → all (entryAllowed v k) es ≡ true → all entryKnown es ≡ true
 all-known v k [] h = refl
 all-known v k (e ∷ es) h =
-    rw (allowed-known v k e (and-left (allowedEntry v k e) (all (allowedEntry v k) es) h), all-known v k es (and-right (allowedEntry v k e) (all (allowedEntry v k) es) h))
+    rw (allowed-known v k e (and-left (entryAllowed v k e) (all (entryAllowed v k) es) h), all-known v k es (and-right (entryAllowed v k e) (all (entryAllowed v k) es) h))

@@ -12,7 +12,7 @@ use Rattle.base.proofs.Lists.{and-left}
 use Rattle.meaning.specs.declared.Form.{Form}
 use Rattle.meaning.specs.Sizes.{maxParts, maxVariables, maxClocks, maxDepth, headerLength, lengthOf}
 use Rattle.meaning.specs.Tree.{size, depth}
-use Rattle.meaning.specs.Program.{parts, variables, clocks, sizesAllowed, entries, preorder, knownEntry, allowedEntry, treeOf, isTree, partTests, programRefusal}
+use Rattle.meaning.specs.Program.{parts, variables, clocks, sizesAllowed, entries, preorder, entryKnown, entryAllowed, treeOf, isTree, partTests, programRefusal}
 use Rattle.meaning.specs.Answers.{fileTooShort, sizeOutOfRange, wrongLength, unknownKind, operandNotAllowed, notOneTree, tooDeep}
 use Rattle.meaning.proofs.Trees.{length-preorder}
 use Rattle.meaning.proofs.Parsing.{trees-are}
@@ -20,7 +20,7 @@ use Rattle.meaning.proofs.Files.{length-entries}
 use Rattle.program_walk.specs.Walk.{anyEnd, partsEnd}
 use Rattle.program_walk.proofs.Entries.{all-entries, each-entry}
 use Rattle.program_walk.proofs.Standing.{Alone, alone}
-use Rattle.program_walk.proofs.Ending.{Fine, whole-reached, Whole, whole}
+use Rattle.program_walk.proofs.Ending.{Fine, whole-reached, WholeTree, whole}
 use Rattle.program_refusals.specs.Counting.{fills}
 use Rattle.program_refusals.proofs.Counting.{all-known, one-tree}
 
@@ -35,9 +35,9 @@ pub long-enough : (form : Form) (s : List ℕ) (n m : ℕ) → n ≡ parts s →
 long-enough form s n m p l f = omega (arith, f ∙ l ∙ ap (lengthOf form) p)
 
 -- sizes that are allowed have a part
-pub some-part : (r : Bool) (s : List ℕ) → r ≡ sizesAllowed s → not r ≡ false → 1 ≤ parts s
+pub has-parts : (r : Bool) (s : List ℕ) → r ≡ sizesAllowed s → not r ≡ false → 1 ≤ parts s
 unfolding sizesAllowed
-some-part r s e t = leb-true 1 (parts s) (and-left (leb 1 (parts s)) (leb (parts s) maxParts && (leb 1 (variables s) && (leb (variables s) maxVariables && leb (clocks s) maxClocks))) (passed r (sizesAllowed s) e t))
+has-parts r s e t = leb-true 1 (parts s) (and-left (leb 1 (parts s)) (leb (parts s) maxParts && (leb 1 (variables s) && (leb (variables s) maxVariables && leb (clocks s) maxClocks))) (passed r (sizesAllowed s) e t))
 
 module _ (form : Form) (s : List ℕ) where
   pub too-short : length s < headerLength → fileTooShort ≡ programRefusal form s
@@ -59,20 +59,20 @@ module _ (form : Form) (s : List ℕ) where
     parts-refused a f g =
         g ∙ rw (le-leb headerLength (length s) h, passed r (sizesAllowed s) e t, eq-eqb (length s) (lengthOf form (parts s)) (f ∙ l ∙ ap (lengthOf form) p))
 
-  module _ (known : Bool) (a : known ≡ all knownEntry (entries form s)) where
+  module _ (known : Bool) (a : known ≡ all entryKnown (entries form s)) where
     pub kinds-refused : not known ≡ true → unknownKind ≡ firstFailing (partTests form s)
-    kinds-refused t = rw (refused known (all knownEntry (entries form s)) a t)
+    kinds-refused t = rw (refused known (all entryKnown (entries form s)) a t)
 
-    module _ (t : not known ≡ false) (allowed : Bool) (b : allowed ≡ all (allowedEntry (variables s) (clocks s)) (entries form s)) where
-      kinds-pass : all knownEntry (entries form s) ≡ true
-      kinds-pass = passed known (all knownEntry (entries form s)) a t
+    module _ (t : not known ≡ false) (allowed : Bool) (b : allowed ≡ all (entryAllowed (variables s) (clocks s)) (entries form s)) where
+      kinds-pass : all entryKnown (entries form s) ≡ true
+      kinds-pass = passed known (all entryKnown (entries form s)) a t
 
       pub operands-refused : not allowed ≡ true → operandNotAllowed ≡ firstFailing (partTests form s)
-      operands-refused u = rw (kinds-pass, refused allowed (all (allowedEntry (variables s) (clocks s)) (entries form s)) b u)
+      operands-refused u = rw (kinds-pass, refused allowed (all (entryAllowed (variables s) (clocks s)) (entries form s)) b u)
 
       module _ (u : not allowed ≡ false) (r : Bool) (d : r ≡ fills (entries form s) 1) where
-        operands-pass : all (allowedEntry (variables s) (clocks s)) (entries form s) ≡ true
-        operands-pass = passed allowed (all (allowedEntry (variables s) (clocks s)) (entries form s)) b u
+        operands-pass : all (entryAllowed (variables s) (clocks s)) (entries form s) ≡ true
+        operands-pass = passed allowed (all (entryAllowed (variables s) (clocks s)) (entries form s)) b u
 
         tree-is : isTree (treeOf form s) ≡ r
         tree-is = one-tree (variables s) (clocks s) form s kinds-pass operands-pass ∙ sym d
@@ -90,7 +90,7 @@ module _ (form : Form) (s : List ℕ) where
         pub depth-refused : not r ≡ false → (partsEnd form s anyEnd maxDepth 1 0 ≡ parts s → ⊥) → tooDeep ≡ firstFailing (partTests form s)
         depth-refused f no-end =
             let one : Alone form s = alone form s (tree-is ∙ not-false r f) in
-            let fine : (p : ℕ) → p < parts s → Fine form s anyEnd p = λ p h. record { allowed = each-entry form s (allowedEntry (variables s) (clocks s)) operands-pass p h; tested = refl } in
+            let fine : (p : ℕ) → p < parts s → Fine form s anyEnd p = λ p h. record { allowed = each-entry form s (entryAllowed (variables s) (clocks s)) operands-pass p h; tested = refl } in
             go one (leb (depth (one .part)) maxDepth) refl (whole-reached form s anyEnd fine maxDepth (one .part) (one .is))
           where
             go : (one : Alone form s) (x : Bool) → leb (depth (one .part)) maxDepth ≡ x → partsEnd form s anyEnd maxDepth 1 0 ≡ cond x (0 + size (one .part)) 0 → tooDeep ≡ firstFailing (partTests form s)
@@ -102,12 +102,12 @@ module _ (form : Form) (s : List ℕ) where
     pub no-end : (e ≡ n → ⊥) → partsEnd form s test maxDepth 1 0 ≡ parts s → ⊥
     no-end h d = h (e-is ∙ d ∙ sym n-is)
 
-    pub found-whole : 1 ≤ parts s → e ≡ n → Whole form s test maxDepth
-    found-whole some-part h = whole form s test maxDepth (sym e-is ∙ h ∙ n-is) (λ z. omega arith)
+    pub found-whole : 1 ≤ parts s → e ≡ n → WholeTree form s test maxDepth
+    found-whole has-parts h = whole form s test maxDepth (sym e-is ∙ h ∙ n-is) (λ z. omega arith)
 
     pub parts-pass : 1 ≤ parts s → e ≡ n → 0 ≡ firstFailing (partTests form s)
     unfolding treeOf
-    parts-pass some-part h =
-        let w : Whole form s test maxDepth = found-whole some-part h in
-        let allowed : all (allowedEntry (variables s) (clocks s)) (entries form s) ≡ true = all-entries form s (allowedEntry (variables s) (clocks s)) (λ p b. w .fine p b .allowed) in
+    parts-pass has-parts h =
+        let w : WholeTree form s test maxDepth = found-whole has-parts h in
+        let allowed : all (entryAllowed (variables s) (clocks s)) (entries form s) ≡ true = all-entries form s (entryAllowed (variables s) (clocks s)) (λ p b. w .fine p b .allowed) in
         rw (all-known (variables s) (clocks s) (entries form s) allowed, allowed, w .tree, le-leb (depth (w .part)) maxDepth (w .shallow))

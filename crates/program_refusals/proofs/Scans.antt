@@ -22,21 +22,21 @@ module _ (form : Form) (s : List ℕ) (n p : ℕ) (n-is : n ≡ parts s) where
   pub all-passes : (f : Entry → Bool) (e : Entry) (b x : Bool) → p < n → e ≡ entryAt form s p → b ≡ f e → not b ≡ false → all f (drop p (entries form s)) ≡ x → all f (drop (p + 1) (entries form s)) ≡ x
   all-passes f e b x h e-is b-is t i = rw (not-false b t) at (all-next f e b x h e-is b-is i)
 
-  pub all-fails : (f : Entry → Bool) (e : Entry) (b x : Bool) → p < n → e ≡ entryAt form s p → b ≡ f e → not b ≡ true → all f (drop p (entries form s)) ≡ x → false ≡ x
-  all-fails f e b x h e-is b-is t i = rw (not-true b t) at (all-next f e b x h e-is b-is i)
+  pub scan-fails : (f : Entry → Bool) (e : Entry) (b x : Bool) → p < n → e ≡ entryAt form s p → b ≡ f e → not b ≡ true → all f (drop p (entries form s)) ≡ x → false ≡ x
+  scan-fails f e b x h e-is b-is t i = rw (not-true b t) at (all-next f e b x h e-is b-is i)
 
-  pub all-ends : (f : Entry → Bool) (x : Bool) → n ≤ p → all f (drop p (entries form s)) ≡ x → true ≡ x
-  all-ends f x h i = rw (entries-past form s p (omega arith)) at i
+  pub scan-ends : (f : Entry → Bool) (x : Bool) → n ≤ p → all f (drop p (entries form s)) ≡ x → true ≡ x
+  scan-ends f x h i = rw (entries-past form s p (omega arith)) at i
 
-  -- what is due falls by the place that the entry at p takes, and grows by those of its children
-  pub fills-next : (e : Entry) (due a b : ℕ) (x : Bool) → p < n → e ≡ entryAt form s p → (due ≡ 0 → ⊥) → a ≡ arityOf e → b ≡ a → fills (drop p (entries form s)) due ≡ x → fills (drop (p + 1) (entries form s)) (due - 1 + b) ≡ x
+  -- the trees that remain are one fewer for the entry at p, and more by its children
+  pub fills-next : (e : Entry) (remaining a b : ℕ) (x : Bool) → p < n → e ≡ entryAt form s p → (remaining ≡ 0 → ⊥) → a ≡ arityOf e → b ≡ a → fills (drop p (entries form s)) remaining ≡ x → fills (drop (p + 1) (entries form s)) (remaining - 1 + b) ≡ x
   unfolding fills
-  fills-next e due a b x h e-is t a-is b-is i = rw (b-is, a-is, e-is) (rw (entries-next form s p (omega arith), ne-eqb due 0 t) at i)
+  fills-next e remaining a b x h e-is t a-is b-is i = rw (b-is, a-is, e-is) (rw (entries-next form s p (omega arith), ne-eqb remaining 0 t) at i)
 
-  pub fills-stops : (due : ℕ) (x : Bool) → p < n → due ≡ 0 → fills (drop p (entries form s)) due ≡ x → false ≡ x
+  pub fills-stops : (remaining : ℕ) (x : Bool) → p < n → remaining ≡ 0 → fills (drop p (entries form s)) remaining ≡ x → false ≡ x
   unfolding fills
-  fills-stops due x h z i = rw (entries-next form s p (omega arith), z) at i
+  fills-stops remaining x h z i = rw (entries-next form s p (omega arith), z) at i
 
-  pub fills-ends : (due : ℕ) (x : Bool) → n ≤ p → fills (drop p (entries form s)) due ≡ x → eqb due 0 ≡ x
+  pub fills-ends : (remaining : ℕ) (x : Bool) → n ≤ p → fills (drop p (entries form s)) remaining ≡ x → eqb remaining 0 ≡ x
   unfolding fills
-  fills-ends due x h i = rw (entries-past form s p (omega arith)) at i
+  fills-ends remaining x h i = rw (entries-past form s p (omega arith)) at i

@@ -6,7 +6,7 @@ use lib.Dec.{eqb}
 use Rattle.meaning.specs.declared.Entry.{Entry}
 use Rattle.meaning.specs.Program.{arityOf}
 
--- the entries are exactly as many trees as are due
+-- the entries form exactly so many trees
 unfoldable pub fills : List Entry → ℕ → Bool
-fills [] due = eqb due 0
-fills (e ∷ es) due = not (eqb due 0) && fills es (due - 1 + arityOf e)
+fills [] remaining = eqb remaining 0
+fills (e ∷ es) remaining = not (eqb remaining 0) && fills es (remaining - 1 + arityOf e)

@@ -9,9 +9,9 @@ use meaning::Form;
 use meaning::Refusal;
 use meaning::sizes::HEADER;
 use meaning::sizes::MAX_DEPTH;
-use program_part::held::length_of;
-use program_part::held::parts;
-use program_part::held::sizes_allowed;
+use program_part::layout::length_of;
+use program_part::layout::parts;
+use program_part::layout::sizes_allowed;
 use program_walk::extent::root_extent;
 ghost use mathlib.Core.Path.{_≡_};
 ghost use Prim.Native.Nat.{_≤_};
@@ -24,7 +24,7 @@ ghost use Rattle.meaning.specs.Answers.{answerNumber};
 ghost use Rattle.program_walk.specs.Walk.{anyEnd, partsEnd};
 
 // Whether s is a program file, or why not: refusals 1 to 7.
-pub fn examine(s: &[u8]) -> Answer
+pub fn program_refusal(s: &[u8]) -> Answer
     ensures { λ r. ⌜ answerNumber r ≡ programRefusal File (now (s .entry)) ⌝ }
 {
     if s.len() < HEADER {
@@ -36,12 +36,12 @@ pub fn examine(s: &[u8]) -> Answer
     if s.len() != length_of(Form::File, parts(s)) {
         return Answer::Refused(Refusal::WrongLength);
     }
-    examine_parts(s)
+    parts_refusal(s)
 }
 
 // Refusals 4 to 7. One walk tells whether a file passes all of them; which of them refuses is asked
 // only where it does not.
-fn examine_parts(s: &[u8]) -> Answer
+fn parts_refusal(s: &[u8]) -> Answer
     requires { ⌜ lengthOf File (parts (now s)) ≤ length (now s) ⌝ }
     requires { ⌜ 1 ≤ parts (now s) ⌝ }
     ensures { λ r. ⌜ answerNumber r ≡ firstFailing (partTests File (now (s .entry))) ⌝ }
@@ -49,12 +49,12 @@ fn examine_parts(s: &[u8]) -> Answer
     if root_extent(s, MAX_DEPTH) == parts(s) {
         return Answer::Done;
     }
-    unfit(s)
+    failed_walk_refusal(s)
 }
 
 // Which of the refusals 4 to 7 a file gets whose walk does not end at its last part. Each is decided
 // over all parts before the next; what passes the first three can only be too deep.
-fn unfit(s: &[u8]) -> Answer
+fn failed_walk_refusal(s: &[u8]) -> Answer
     requires { ⌜ lengthOf File (parts (now s)) ≤ length (now s) ⌝ }
     requires { ⌜ (partsEnd File (now s) anyEnd maxDepth 1 0 ≡ parts (now s) → ⊥) ⌝ }
     ensures { λ r. ⌜ answerNumber r ≡ firstFailing (partTests File (now (s .entry))) ⌝ }

@@ -18,132 +18,132 @@ use Rattle.meaning.specs.declared.Form.the-variants.{File, Table}
 use Rattle.meaning.specs.Sizes.{byteValues, numberLimit, noPart, headerLength, endPlace, parentPlace, nextPlace, rowLength, lengthOf, numberAt}
 use Rattle.meaning.specs.Kinds.{Kind, PAR, kindOf}
 use Rattle.meaning.specs.Tree.{Part, kind, children, size}
-use Rattle.meaning.specs.Program.{parts, entries, entryAt, arityOf, trees, follow, place, operandBytes}
+use Rattle.meaning.specs.Program.{parts, entries, entryAt, arityOf, trees, follow, takeChildren, operandBytes}
 use Rattle.meaning.specs.Table.{Row, nextOf, siblings, block}
 use Rattle.meaning.proofs.Trees.{size-law, block-parts, rows-law}
 use Rattle.meaning.proofs.Tables.{length-rows}
 use Rattle.meaning.proofs.Parsing.{Placed, placed}
 use Rattle.meaning.proofs.Files.{length-entries}
-use Rattle.program_walk.specs.Walk.{Stands, Walkable, OneTree, partAt}
-use Rattle.program_rows.specs.Rows.{entryRow, withLinks, heldRows, forestRows, Forest, inner, written, endOf, rowWritten, rowsOf}
+use Rattle.program_walk.specs.Walk.{TreeAt, Walkable, OneTree, partAt}
+use Rattle.program_rows.specs.Rows.{entryRow, withLinks, linkedRows, forestRows, Forest, innerRows, innerWritten, endOf, rowWritten, rowsOf}
 use Rattle.program_walk.proofs.Entries.{entries-at, entries-end}
-use Rattle.program_walk.proofs.Standing.{Left, First, stands-entry, stands-below, left-first, left-head, left-more, head-is, head-stands, head-part, part-is, past}
+use Rattle.program_walk.proofs.Standing.{ChildrenLeft, First, stands-entry, stands-below, left-first, left-head, left-more, head-is, head-stands, head-part, part-is, past}
 
 -- a part has a row for itself and one for each part inside it
-inner-long : (p : Part) (n : ℕ) → suc (length (inner p n)) ≡ size p
-unfolding inner
+inner-long : (p : Part) (n : ℕ) → suc (length (innerRows p n)) ≡ size p
+unfolding innerRows
 inner-long p n = ap length (sym (rows-law p n 0 0)) ∙ length-rows p n 0 0
 
 module _ (s : List ℕ) where
-  rows-long : (q : ℕ) (rs : List Row) → length (heldRows s q rs) ≡ rowLength * length rs
-  unfolding heldRows
+  rows-long : (q : ℕ) (rs : List Row) → length (linkedRows s q rs) ≡ rowLength * length rs
+  unfolding linkedRows
   rows-long q [] = refl
-  rows-long q (r ∷ rs) = let rest : length (heldRows s (suc q) rs) ≡ rowLength * length rs = rows-long (suc q) rs in omega arith
+  rows-long q (r ∷ rs) = let rest : length (linkedRows s (suc q) rs) ≡ rowLength * length rs = rows-long (suc q) rs in omega arith
 
-  rows-append : (q : ℕ) (xs ys : List Row) → heldRows s q (xs ++ ys) ≡ heldRows s q xs ++ heldRows s (q + length xs) ys
-  unfolding heldRows
+  rows-append : (q : ℕ) (xs ys : List Row) → linkedRows s q (xs ++ ys) ≡ linkedRows s q xs ++ linkedRows s (q + length xs) ys
+  unfolding linkedRows
   rows-append q [] ys = rw add-zero
   rows-append q (x ∷ xs) ys =
       let own : List ℕ = entryRow (entryAt File s q) (x .end) (x .parent) (x .next) in
       ap (λ (l : List ℕ). own ++ l) (rows-append (suc q) xs ys)
-      ∙ sym (append-assoc own (heldRows s (suc q) xs) (heldRows s (suc q + length xs) ys))
-      ∙ ap (λ (i : ℕ). (own ++ heldRows s (suc q) xs) ++ heldRows s i ys) (omega arith)
+      ∙ sym (append-assoc own (linkedRows s (suc q) xs) (linkedRows s (suc q + length xs) ys))
+      ∙ ap (λ (i : ℕ). (own ++ linkedRows s (suc q) xs) ++ linkedRows s i ys) (omega arith)
 
   -- The rows of children are that of the first, those of the parts inside it, and those of the other children
   children-rows : (c : Part) (k : Kind) (n q : ℕ) (cs : List Part)
-      → heldRows s q (siblings k n q (map block (c ∷ cs)))
-      ≡ entryRow (entryAt File s q) (q + size c) n (nextOf k q (q + size c) (nonempty (map block cs))) ++ (heldRows s (q + 1) (inner c q) ++ heldRows s (q + size c) (siblings k n (q + size c) (map block cs)))
-  unfolding inner heldRows
+      → linkedRows s q (siblings k n q (map block (c ∷ cs)))
+      ≡ entryRow (entryAt File s q) (q + size c) n (nextOf k q (q + size c) (nonempty (map block cs))) ++ (linkedRows s (q + 1) (innerRows c q) ++ linkedRows s (q + size c) (siblings k n (q + size c) (map block cs)))
+  unfolding innerRows linkedRows
   children-rows c k n q cs =
-      let m : suc q + length (inner c q) ≡ q + size c = omega (arith, inner-long c q) in
+      let m : suc q + length (innerRows c q) ≡ q + size c = omega (arith, inner-long c q) in
       rw (block-parts c, rows-law c q n (nextOf k q (q + size c) (nonempty (map block cs))), add-one q)
       (ap (λ (l : List ℕ). entryRow (entryAt File s q) (q + size c) n (nextOf k q (q + size c) (nonempty (map block cs))) ++ l)
-      (rows-append (suc q) (inner c q) (siblings k n (q + size c) (map block cs)) ∙ ap (λ (i : ℕ). heldRows s (suc q) (inner c q) ++ heldRows s i (siblings k n (q + size c) (map block cs))) m))
+      (rows-append (suc q) (innerRows c q) (siblings k n (q + size c) (map block cs)) ∙ ap (λ (i : ℕ). linkedRows s (suc q) (innerRows c q) ++ linkedRows s i (siblings k n (q + size c) (map block cs))) m))
 
   -- so writing those inside the first, then its own, then the others' writes them all
   child-rows : (c : Part) (k : Kind) (n q : ℕ) (cs : List Part) (out : List ℕ)
       → sets
-      (sets (sets out (headerLength + rowLength * (q + 1)) (heldRows s (q + 1) (inner c q))) (headerLength + rowLength * q) (entryRow (entryAt File s q) (q + size c) n (nextOf k q (q + size c) (nonempty (map block cs)))))
+      (sets (sets out (headerLength + rowLength * (q + 1)) (linkedRows s (q + 1) (innerRows c q))) (headerLength + rowLength * q) (entryRow (entryAt File s q) (q + size c) n (nextOf k q (q + size c) (nonempty (map block cs)))))
       (headerLength + rowLength * (q + size c))
-      (heldRows s (q + size c) (siblings k n (q + size c) (map block cs)))
-      ≡ sets out (headerLength + rowLength * q) (heldRows s q (siblings k n q (map block (c ∷ cs))))
+      (linkedRows s (q + size c) (siblings k n (q + size c) (map block cs)))
+      ≡ sets out (headerLength + rowLength * q) (linkedRows s q (siblings k n q (map block (c ∷ cs))))
   child-rows c k n q cs out =
-      let I : List ℕ = heldRows s (q + 1) (inner c q) in
+      let I : List ℕ = linkedRows s (q + 1) (innerRows c q) in
       let L : List ℕ = entryRow (entryAt File s q) (q + size c) n (nextOf k q (q + size c) (nonempty (map block cs))) in
-      let S : List ℕ = heldRows s (q + size c) (siblings k n (q + size c) (map block cs)) in
+      let S : List ℕ = linkedRows s (q + size c) (siblings k n (q + size c) (map block cs)) in
       ap (λ (l : List ℕ). sets l (headerLength + rowLength * (q + size c)) S) (sets-before out (headerLength + rowLength * q) (headerLength + rowLength * (q + 1)) L I (omega arith))
-      ∙ sets-append out (headerLength + rowLength * q) (headerLength + rowLength * (q + size c)) (L ++ I) S (omega (arith, rows-long (q + 1) (inner c q), inner-long c q))
+      ∙ sets-append out (headerLength + rowLength * q) (headerLength + rowLength * (q + size c)) (L ++ I) S (omega (arith, rows-long (q + 1) (innerRows c q), inner-long c q))
       ∙ ap (λ (l : List ℕ). sets out (headerLength + rowLength * q) l) (sym (children-rows c k n q cs))
 
 -- The loop over the children of part n of kind k: those that are left complete its rows and lead to its end
-pub record Rowing (s : List ℕ) (k : Kind) (n q due : ℕ) (out whole : List ℕ) (end : ℕ) : Type 0 where
-  pub left : Left (entries File s) q due
+pub record Rowing (s : List ℕ) (k : Kind) (n q remaining : ℕ) (out whole : List ℕ) (end : ℕ) : Type 0 where
+  pub left : ChildrenLeft (entries File s) q remaining
   pub further : n < q
-  pub completes : sets out (headerLength + rowLength * q) (heldRows s q (siblings k n q (map block (left .parts)))) ≡ whole
+  pub completes : sets out (headerLength + rowLength * q) (linkedRows s q (siblings k n q (map block (left .parts)))) ≡ whole
   pub ends : q + sum (map size (left .parts)) ≡ end
 
-pub rowing-first : (s : List ℕ) (n due : ℕ) (out : List ℕ) (part : Entry) → Stands (entries File s) n → part ≡ entryAt File s n → due ≡ arityOf part
-    → Rowing s (kindOf (part .kind)) n (n + 1) due out (written s n out) (endOf s n)
-unfolding inner
-rowing-first s n due out part st is e =
+pub rowing-first : (s : List ℕ) (n remaining : ℕ) (out : List ℕ) (part : Entry) → TreeAt (entries File s) n → part ≡ entryAt File s n → remaining ≡ arityOf part
+    → Rowing s (kindOf (part .kind)) n (n + 1) remaining out (innerWritten s n out) (endOf s n)
+unfolding innerRows
+rowing-first s n remaining out part st is e =
     let t : partAt (entries File s) n ≡ st .part = part-is (entries File s) n (st .part) (st .later) (st .is) in
     rw (is, t, stands-entry File s n st .kind-is)
     (record {
-      left = left-first File s n due st (e ∙ ap arityOf is);
+      left = left-first File s n remaining st (e ∙ ap arityOf is);
       further = omega arith;
-      completes = ap (λ (m : ℕ). sets out (headerLength + rowLength * (n + 1)) (heldRows s (n + 1) (siblings (kind (st .part)) n m (map block (children (st .part)))))) (add-one n);
+      completes = ap (λ (m : ℕ). sets out (headerLength + rowLength * (n + 1)) (linkedRows s (n + 1) (siblings (kind (st .part)) n m (map block (children (st .part)))))) (add-one n);
       ends = omega (arith, size-law (st .part));
     })
 
-module _ (s : List ℕ) (k : Kind) (n q due : ℕ) (out whole : List ℕ) (end : ℕ) (w : Rowing s k n q due out whole end) (some : 0 < due) where
+module _ (s : List ℕ) (k : Kind) (n q remaining : ℕ) (out whole : List ℕ) (end : ℕ) (w : Rowing s k n q remaining out whole end) (some : 0 < remaining) where
   abbrev es : List Entry
   es = entries File s
 
-  first : First es q due (w .left)
-  first = left-head es q due (w .left) some
+  first : First es q remaining (w .left)
+  first = left-head es q remaining (w .left) some
 
-  pub rowing-stands : Stands es q
-  rowing-stands = head-stands es q due (w .left) first
+  pub rowing-stands : TreeAt es q
+  rowing-stands = head-stands es q remaining (w .left) first
 
-  follows-is : ltb 1 due ≡ nonempty (map block (first .rest))
+  follows-is : ltb 1 remaining ≡ nonempty (map block (first .rest))
   follows-is = go (first .rest) (w .left .many ∙ ap length (first .are))
     where
-      go : (ps : List Part) → due ≡ suc (length ps) → ltb 1 due ≡ nonempty (map block ps)
-      go [] e = le-ltb 1 due (omega arith)
-      go (p ∷ ps) e = lt-ltb 1 due (omega arith)
+      go : (ps : List Part) → remaining ≡ suc (length ps) → ltb 1 remaining ≡ nonempty (map block ps)
+      go [] e = le-ltb 1 remaining (omega arith)
+      go (p ∷ ps) e = lt-ltb 1 remaining (omega arith)
 
-  rowing-next : Rowing s k n (q + size (first .part)) (due - 1)
+  rowing-next : Rowing s k n (q + size (first .part)) (remaining - 1)
       (sets
-      (sets out (headerLength + rowLength * (q + 1)) (heldRows s (q + 1) (inner (first .part) q)))
+      (sets out (headerLength + rowLength * (q + 1)) (linkedRows s (q + 1) (innerRows (first .part) q)))
       (headerLength + rowLength * q)
       (entryRow (entryAt File s q) (q + size (first .part)) n (nextOf k q (q + size (first .part)) (nonempty (map block (first .rest))))))
       whole
       end
   rowing-next =
       record {
-        left = left-more es q due (w .left) first;
+        left = left-more es q remaining (w .left) first;
         further = omega (arith, w .further);
         completes =
             child-rows s (first .part) k n q (first .rest) out
-            ∙ ap (λ (ps : List Part). sets out (headerLength + rowLength * q) (heldRows s q (siblings k n q (map block ps)))) (sym (first .are))
+            ∙ ap (λ (ps : List Part). sets out (headerLength + rowLength * q) (linkedRows s q (siblings k n q (map block ps)))) (sym (first .are))
             ∙ w .completes;
         ends = omega (arith, ap (λ (ps : List Part). sum (map size ps)) (first .are), w .ends);
       }
 
   -- a child is written: what is inside it, then itself
-  pub rowing-child : (e next : ℕ) (follows : Bool) (out₁ out₂ : List ℕ) → e ≡ endOf s q → out₁ ≡ written s q out → follows ≡ ltb 1 due → next ≡ nextOf k q e follows
-      → out₂ ≡ sets out₁ (headerLength + rowLength * q) (entryRow (entryAt File s q) e n next) → Rowing s k n e (due - 1) out₂ whole end
+  pub rowing-child : (e next : ℕ) (follows : Bool) (out₁ out₂ : List ℕ) → e ≡ endOf s q → out₁ ≡ innerWritten s q out → follows ≡ ltb 1 remaining → next ≡ nextOf k q e follows
+      → out₂ ≡ sets out₁ (headerLength + rowLength * q) (entryRow (entryAt File s q) e n next) → Rowing s k n e (remaining - 1) out₂ whole end
   rowing-child e next follows out₁ out₂ he h₁ hf hn h₂ =
-      rw (h₂, hn, h₁, he, head-part es q due (w .left) first, hf, follows-is) rowing-next
+      rw (h₂, hn, h₁, he, head-part es q remaining (w .left) first, hf, follows-is) rowing-next
 
-pub rowing-end : (s : List ℕ) (k : Kind) (n q due : ℕ) (out whole : List ℕ) (end : ℕ) → Rowing s k n q due out whole end → due ≤ 0 → (q ≡ end) × (out ≡ whole)
-unfolding heldRows
-rowing-end s k n q due out whole end w h = go (w .left .parts) refl
+pub rowing-end : (s : List ℕ) (k : Kind) (n q remaining : ℕ) (out whole : List ℕ) (end : ℕ) → Rowing s k n q remaining out whole end → remaining ≤ 0 → (q ≡ end) × (out ≡ whole)
+unfolding linkedRows
+rowing-end s k n q remaining out whole end w h = go (w .left .parts) refl
   where
     go : (ps : List Part) → w .left .parts ≡ ps → (q ≡ end) × (out ≡ whole)
     go [] e = (
       omega (arith, ap (λ (ps : List Part). sum (map size ps)) e, w .ends),
-      ap (λ (ps : List Part). sets out (headerLength + rowLength * q) (heldRows s q (siblings k n q (map block ps)))) (sym e) ∙ w .completes,
+      ap (λ (ps : List Part). sets out (headerLength + rowLength * q) (linkedRows s q (siblings k n q (map block ps)))) (sym e) ∙ w .completes,
     )
     go (p ∷ ps) e = absurd (omega (arith, w .left .many ∙ ap length e))
 
@@ -184,7 +184,7 @@ unfolding trees
 sizes-are [] ps t = let n : ps ≡ [] = cc in rw n
 sizes-are (e ∷ xs) ps t = go (trees xs) (λ qs q. sizes-are xs qs q) refl t
   where
-    go : (m : Option (List Part)) → ((qs : List Part) → trees xs ≡ some qs → sum (map size qs) ≡ length xs) → trees xs ≡ m → follow (place e) m ≡ some ps → sum (map size ps) ≡ suc (length xs)
+    go : (m : Option (List Part)) → ((qs : List Part) → trees xs ≡ some qs → sum (map size qs) ≡ length xs) → trees xs ≡ m → follow (takeChildren e) m ≡ some ps → sum (map size ps) ≡ suc (length xs)
     go none ih q h = absurd (Option·none-ne-some ps h)
     go (some qs) ih q h =
         let w : Placed e qs ps = placed e qs ps h in
@@ -203,7 +203,7 @@ module _ (s : List ℕ) where
   unfolding trees
   trees-after e xs ps h = go (trees xs) refl h
     where
-      go : (m : Option (List Part)) → trees xs ≡ m → follow (place e) m ≡ some ps → (qs : List Part) × (trees xs ≡ some qs)
+      go : (m : Option (List Part)) → trees xs ≡ m → follow (takeChildren e) m ≡ some ps → (qs : List Part) × (trees xs ≡ some qs)
       go none q f = absurd (Option·none-ne-some ps f)
       go (some qs) q f = (qs, q)
 
@@ -233,12 +233,12 @@ module _ (s : List ℕ) where
   forest-append : (q : ℕ) (cs ds : List Part) → forestRows s q (cs ++ ds) ≡ forestRows s q cs ++ forestRows s (q + sum (map size cs)) ds
   unfolding forestRows
   forest-append q cs ds =
-      ap (heldRows s q) (siblings-append q cs ds)
+      ap (linkedRows s q) (siblings-append q cs ds)
       ∙ rows-append s q (siblings PAR noPart q (map block cs)) (siblings PAR noPart (q + sum (map size cs)) (map block ds))
-      ∙ ap (λ (n : ℕ). heldRows s q (siblings PAR noPart q (map block cs)) ++ heldRows s (q + n) (siblings PAR noPart (q + sum (map size cs)) (map block ds))) (siblings-long q cs)
+      ∙ ap (λ (n : ℕ). linkedRows s q (siblings PAR noPart q (map block cs)) ++ linkedRows s (q + n) (siblings PAR noPart (q + sum (map size cs)) (map block ds))) (siblings-long q cs)
 
   -- the first tree's own row, the rows inside it, and those of the others
-  forest-first : (q : ℕ) (c : Part) (cs : List Part) → forestRows s q (c ∷ cs) ≡ entryRow (entryAt File s q) (q + size c) noPart noPart ++ (heldRows s (q + 1) (inner c q) ++ forestRows s (q + size c) cs)
+  forest-first : (q : ℕ) (c : Part) (cs : List Part) → forestRows s q (c ∷ cs) ≡ entryRow (entryAt File s q) (q + size c) noPart noPart ++ (linkedRows s (q + 1) (innerRows c q) ++ forestRows s (q + size c) cs)
   unfolding forestRows nextOf
   forest-first q c cs = children-rows s c PAR noPart q cs
 
@@ -254,9 +254,9 @@ row-links l i k e a b p x os t =
     rw (add-two, add-three, ← first, set-getD l i 0, ← second, set-getD l (suc i) 0) (sym (there-stored (set (set l (suc (suc i)) p) (suc (suc (suc i))) x) (suc (suc (suc (suc i)))) os kept))
 
 -- The loop over the children of part n, whose rows stand in the buffer
-module _ (s : List ℕ) (k : Kind) (n q due : ℕ) (out whole : List ℕ) (end : ℕ) (w : Rowing s k n q due out whole end) (some-due : 0 < due) (f : Forest s out q) (small : parts s < numberLimit) where
-  child : First (entries File s) q due (w .left)
-  child = first s k n q due out whole end w some-due
+module _ (s : List ℕ) (k : Kind) (n q remaining : ℕ) (out whole : List ℕ) (end : ℕ) (w : Rowing s k n q remaining out whole end) (some-remaining : 0 < remaining) (f : Forest s out q) (small : parts s < numberLimit) where
+  child : First (entries File s) q remaining (w .left)
+  child = first s k n q remaining out whole end w some-remaining
 
   abbrev others : List Part
   others = child .rest ++ w .left .later
@@ -265,12 +265,12 @@ module _ (s : List ℕ) (k : Kind) (n q due : ℕ) (out whole : List ℕ) (end :
   row = headerLength + rowLength * q
 
   here : q < parts s
-  here = stands-below File s q (rowing-stands s k n q due out whole end w some-due)
+  here = stands-below File s q (rowing-stands s k n q remaining out whole end w some-remaining)
 
   trees-are : trees (drop q (entries File s)) ≡ some (child .part ∷ others)
-  trees-are = head-is (entries File s) q due (w .left) child
+  trees-are = head-is (entries File s) q remaining (w .left) child
 
-  stand : There out row (entryRow (entryAt File s q) (q + size (child .part)) noPart noPart ++ (heldRows s (q + 1) (inner (child .part) q) ++ forestRows s (q + size (child .part)) others))
+  stand : There out row (entryRow (entryAt File s q) (q + size (child .part)) noPart noPart ++ (linkedRows s (q + 1) (innerRows (child .part) q) ++ forestRows s (q + size (child .part)) others))
   stand =
       let same : f .trees-left ≡ child .part ∷ others = cc (f .are, trees-are) in
       subst (λ (xs : List ℕ). There out row xs) (ap (forestRows s q) same ∙ forest-first s q (child .part) others) (f .there)
@@ -279,7 +279,7 @@ module _ (s : List ℕ) (k : Kind) (n q due : ℕ) (out whole : List ℕ) (end :
   whole-end = reach-end s q (child .part ∷ others) (omega (arith, here)) trees-are
 
   end-is : q + size (child .part) ≡ endOf s q
-  end-is = ap (λ (c : Part). q + size c) (sym (head-part (entries File s) q due (w .left) child))
+  end-is = ap (λ (c : Part). q + size c) (sym (head-part (entries File s) q remaining (w .left) child))
 
   fits : q + size (child .part) < numberLimit
   fits = omega (arith, whole-end)
@@ -290,32 +290,32 @@ module _ (s : List ℕ) (k : Kind) (n q due : ℕ) (out whole : List ℕ) (end :
       rw (e-is, a-is) (read ∙ mod-eq-of-lt fits ∙ end-is)
 
   -- what is inside the child is written already
-  inside-there : There out (headerLength + rowLength * (q + 1)) (heldRows s (q + 1) (inner (child .part) q))
+  inside-there : There out (headerLength + rowLength * (q + 1)) (linkedRows s (q + 1) (innerRows (child .part) q))
   inside-there =
-      there-front out (headerLength + rowLength * (q + 1)) (heldRows s (q + 1) (inner (child .part) q)) (forestRows s (q + size (child .part)) others)
-      (there-back out row (headerLength + rowLength * (q + 1)) (entryRow (entryAt File s q) (q + size (child .part)) noPart noPart) (heldRows s (q + 1) (inner (child .part) q) ++ forestRows s (q + size (child .part)) others) (omega arith) stand)
+      there-front out (headerLength + rowLength * (q + 1)) (linkedRows s (q + 1) (innerRows (child .part) q)) (forestRows s (q + size (child .part)) others)
+      (there-back out row (headerLength + rowLength * (q + 1)) (entryRow (entryAt File s q) (q + size (child .part)) noPart noPart) (linkedRows s (q + 1) (innerRows (child .part) q) ++ forestRows s (q + size (child .part)) others) (omega arith) stand)
 
-  inside-written : out ≡ written s q out
-  inside-written = rw (head-part (entries File s) q due (w .left) child) (sym (there-stored out (headerLength + rowLength * (q + 1)) (heldRows s (q + 1) (inner (child .part) q)) inside-there))
+  inside-written : out ≡ innerWritten s q out
+  inside-written = rw (head-part (entries File s) q remaining (w .left) child) (sym (there-stored out (headerLength + rowLength * (q + 1)) (linkedRows s (q + 1) (innerRows (child .part) q)) inside-there))
 
   -- and so are the other trees
   others-there : There out (headerLength + rowLength * (q + size (child .part))) (forestRows s (q + size (child .part)) others)
   others-there =
-      there-back out (headerLength + rowLength * (q + 1)) (headerLength + rowLength * (q + size (child .part))) (heldRows s (q + 1) (inner (child .part) q)) (forestRows s (q + size (child .part)) others)
-      (omega (arith, rows-long s (q + 1) (inner (child .part) q), inner-long (child .part) q))
-      (there-back out row (headerLength + rowLength * (q + 1)) (entryRow (entryAt File s q) (q + size (child .part)) noPart noPart) (heldRows s (q + 1) (inner (child .part) q) ++ forestRows s (q + size (child .part)) others) (omega arith) stand)
+      there-back out (headerLength + rowLength * (q + 1)) (headerLength + rowLength * (q + size (child .part))) (linkedRows s (q + 1) (innerRows (child .part) q)) (forestRows s (q + size (child .part)) others)
+      (omega (arith, rows-long s (q + 1) (innerRows (child .part) q), inner-long (child .part) q))
+      (there-back out row (headerLength + rowLength * (q + 1)) (entryRow (entryAt File s q) (q + size (child .part)) noPart noPart) (linkedRows s (q + 1) (innerRows (child .part) q) ++ forestRows s (q + size (child .part)) others) (omega arith) stand)
 
   module _ (e x : ℕ) (out₂ : List ℕ) (e-is : e ≡ endOf s q) (out-is : out₂ ≡ withLinks out q n x) where
     linked : out₂ ≡ sets out (headerLength + rowLength * q) (entryRow (entryAt File s q) e n x)
     linked =
         let same : e ≡ q + size (child .part) = e-is ∙ sym end-is in
         out-is
-        ∙ row-links out row (entryAt File s q .kind) ((q + size (child .part)) % byteValues) noPart noPart (n % byteValues) (x % byteValues) (operandBytes (entryAt File s q .operand)) (there-front out row (entryRow (entryAt File s q) (q + size (child .part)) noPart noPart) (heldRows s (q + 1) (inner (child .part) q) ++ forestRows s (q + size (child .part)) others) stand)
+        ∙ row-links out row (entryAt File s q .kind) ((q + size (child .part)) % byteValues) noPart noPart (n % byteValues) (x % byteValues) (operandBytes (entryAt File s q .operand)) (there-front out row (entryRow (entryAt File s q) (q + size (child .part)) noPart noPart) (linkedRows s (q + 1) (innerRows (child .part) q) ++ forestRows s (q + size (child .part)) others) stand)
         ∙ rw same
 
     -- the child gets its links, and the others still stand
-    pub link-child : (follows : Bool) → follows ≡ ltb 1 due → x ≡ nextOf k q e follows → Rowing s k n e (due - 1) out₂ whole end
-    link-child follows follows-are x-is = rowing-child s k n q due out whole end w some-due e x follows out out₂ e-is inside-written follows-are x-is linked
+    pub link-child : (follows : Bool) → follows ≡ ltb 1 remaining → x ≡ nextOf k q e follows → Rowing s k n e (remaining - 1) out₂ whole end
+    link-child follows follows-are x-is = rowing-child s k n q remaining out whole end w some-remaining e x follows out out₂ e-is inside-written follows-are x-is linked
 
     pub others-stand : Forest s out₂ e
     others-stand =
@@ -329,11 +329,11 @@ module _ (s : List ℕ) (k : Kind) (n q due : ℕ) (out whole : List ℕ) (end :
         })
 
 -- After the loop the part's own row is stored
-pub row-done : (s : List ℕ) (k : Kind) (n q due : ℕ) (out₀ out out₁ : List ℕ) (part : Entry) → Rowing s k n q due out (written s n out₀) (endOf s n) → due ≤ 0 → part ≡ entryAt File s n
+pub row-done : (s : List ℕ) (k : Kind) (n q remaining : ℕ) (out₀ out out₁ : List ℕ) (part : Entry) → Rowing s k n q remaining out (innerWritten s n out₀) (endOf s n) → remaining ≤ 0 → part ≡ entryAt File s n
     → out₁ ≡ sets out (headerLength + rowLength * n) (entryRow part q noPart noPart) → out₁ ≡ rowWritten s n out₀
 unfolding rowWritten
-row-done s k n q due out₀ out out₁ part w h part-is out-is =
-    let d = rowing-end s k n q due out (written s n out₀) (endOf s n) w h in
+row-done s k n q remaining out₀ out out₁ part w h part-is out-is =
+    let d = rowing-end s k n q remaining out (innerWritten s n out₀) (endOf s n) w h in
     rw (out-is, part-is, d .0, d .1)
 
 -- The rows from p on are written, and nothing else
@@ -351,16 +351,16 @@ replaced l i xs ys zs e =
 
 module _ (s out₀ : List ℕ) (tree : OneTree s) where
   pub grow-first : (p : ℕ) → p ≡ parts s → Growing s out₀ out₀ p
-  unfolding trees forestRows heldRows
+  unfolding trees forestRows linkedRows
   grow-first p p-is = rw p-is (record { trees-left = []; are = ap trees (entries-end File s); rows = refl })
 
   -- a part stands at each number
-  stands-at : (p : ℕ) → p < parts s → Stands (entries File s) p
+  stands-at : (p : ℕ) → p < parts s → TreeAt (entries File s) p
   stands-at p h =
       let t = trees-from s (tree .part ∷ []) (tree .is) p (omega arith) in
       go (t .0) (t .1) (reach-end s p (t .0) (omega arith) (t .1))
     where
-      go : (ps : List Part) → trees (drop p (entries File s)) ≡ some ps → p + sum (map size ps) ≡ parts s → Stands (entries File s) p
+      go : (ps : List Part) → trees (drop p (entries File s)) ≡ some ps → p + sum (map size ps) ≡ parts s → TreeAt (entries File s) p
       go [] t e = absurd (omega arith)
       go (c ∷ cs) t e = record { part = c; later = cs; is = t }
 
@@ -377,7 +377,7 @@ module _ (s out₀ : List ℕ) (tree : OneTree s) where
       pub grow-next : (out₁ : List ℕ) → out₁ ≡ rowWritten s p out → Growing s out₀ out₁ p
       unfolding rowWritten
       grow-next out₁ out-is =
-          let st : Stands (entries File s) p = stands-at p h in
+          let st : TreeAt (entries File s) p = stands-at p h in
           let c : Part = st .part in
           let j : ℕ = headerLength + rowLength * (p + 1) in
           let i : ℕ = headerLength + rowLength * p in
@@ -386,19 +386,19 @@ module _ (s out₀ : List ℕ) (tree : OneTree s) where
           let left : g .trees-left ≡ children c ++ st .later = cc (ap (λ (k : ℕ). trees (drop k (entries File s))) (sym q-is) ∙ g .are, inside) in
           let far : p + 1 + sum (map size (children c)) ≡ p + size c = omega (arith, size-law c) in
           let own : List ℕ = entryRow (entryAt File s p) (p + size c) noPart noPart in
-          let inner-rows : List ℕ = heldRows s (p + 1) (inner c p) in
+          let inner-rows : List ℕ = linkedRows s (p + 1) (innerRows c p) in
           let now : out ≡ sets out₀ j (forestRows s (p + 1) (children c) ++ forestRows s (p + size c) (st .later)) =
           g .rows
           ∙ ap (λ (k : ℕ). sets out₀ (headerLength + rowLength * k) (forestRows s k (g .trees-left))) q-is
           ∙ ap (λ (ps : List Part). sets out₀ j (forestRows s (p + 1) ps)) left
           ∙ ap (sets out₀ j) (forest-append s (p + 1) (children c) (st .later) ∙ ap (λ (k : ℕ). forestRows s (p + 1) (children c) ++ forestRows s k (st .later)) far) in
-          let long : length inner-rows ≡ length (forestRows s (p + 1) (children c)) = omega (arith, rows-long s (p + 1) (inner c p), inner-long c p, forest-long s (p + 1) (children c), size-law c) in
+          let long : length inner-rows ≡ length (forestRows s (p + 1) (children c)) = omega (arith, rows-long s (p + 1) (innerRows c p), inner-long c p, forest-long s (p + 1) (children c), size-law c) in
           record {
             trees-left = c ∷ st .later;
             are = st .is;
             rows =
                 out-is
-                ∙ ap (λ (d : Part). sets (sets out j (heldRows s (p + 1) (inner d p))) i (entryRow (entryAt File s p) (p + size d) noPart noPart)) around
+                ∙ ap (λ (d : Part). sets (sets out j (linkedRows s (p + 1) (innerRows d p))) i (entryRow (entryAt File s p) (p + size d) noPart noPart)) around
                 ∙ ap (λ (l : List ℕ). sets (sets l j inner-rows) i own) now
                 ∙ ap (λ (l : List ℕ). sets l i own) (replaced out₀ j (forestRows s (p + 1) (children c)) inner-rows (forestRows s (p + size c) (st .later)) long)
                 ∙ sets-before out₀ i j own (inner-rows ++ forestRows s (p + size c) (st .later)) (omega arith)
@@ -413,5 +413,5 @@ grow-all s out₀ out p tree g h =
     let root : partAt (entries File s) 0 ≡ tree .part = part-is (entries File s) 0 (tree .part) [] (tree .is) in
     g .rows
     ∙ ap (λ (k : ℕ). sets out₀ (headerLength + rowLength * k) (forestRows s k (g .trees-left))) none-left
-    ∙ ap (λ (ps : List Part). sets out₀ headerLength (heldRows s 0 (siblings PAR noPart 0 (map block ps)))) left
-    ∙ rw root (ap (λ (rs : List Row). sets out₀ headerLength (heldRows s 0 rs)) (append-nil (block (tree .part) .rows 0 noPart noPart)))
+    ∙ ap (λ (ps : List Part). sets out₀ headerLength (linkedRows s 0 (siblings PAR noPart 0 (map block ps)))) left
+    ∙ rw root (ap (λ (rs : List Row). sets out₀ headerLength (linkedRows s 0 rs)) (append-nil (block (tree .part) .rows 0 noPart noPart)))

@@ -10,7 +10,7 @@ use meaning::sizes::NEXT_PLACE;
 use meaning::sizes::NO_PART;
 use meaning::sizes::OPERAND_PLACE;
 use meaning::sizes::PARENT_PLACE;
-use program_part::held::row_place;
+use program_part::layout::row_place;
 ghost use mathlib.Core.Path.{_≡_};
 ghost use Prim.Native.Nat.{_+_, _*_, _≤_};
 ghost use lib.ListN.{length};

@@ -8,10 +8,10 @@ use meaning::Form;
 use meaning::Number;
 use meaning::sizes::END_PLACE;
 use meaning::sizes::NO_PART;
-use program_part::held::parts;
-use program_part::held::read_number;
-use program_part::held::row_place;
 use program_part::kinds::arity;
+use program_part::layout::parts;
+use program_part::layout::read_number;
+use program_part::layout::row_place;
 use program_walk::walker::entry_at;
 ghost use mathlib.Core.Path.{_≡_};
 ghost use Prim.Native.Nat.{_+_, _≤_};
@@ -31,14 +31,14 @@ fn write_row(s: &[u8], out: &mut [u8], p: Number)
     ensures { λ _. ⌜ now (out .exit) ≡ rowWritten (now (s .entry)) p (now (out .entry)) ⌝ }
 {
     let part = entry_at(s, Form::File, p);
-    let mut due = arity(part);
+    let mut remaining = arity(part);
     let mut q = p + 1;
-    while due > 0 {
+    while remaining > 0 {
         let e = read_number(out, row_place(q) + END_PLACE);
-        let next = next_of(part.kind, q, e, 1 < due);
+        let next = next_of(part.kind, q, e, 1 < remaining);
         put_links(out, q, p, next);
         q = e;
-        due = due - 1;
+        remaining = remaining - 1;
     }
     put_row(out, p, part, q, NO_PART, NO_PART);
 }

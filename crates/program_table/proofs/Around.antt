@@ -24,29 +24,29 @@ module _ (t : List ℕ) (table : isTable t ≡ true) (p : ℕ) (first : 0 < p) (
   parent-before = stands .0
 
   -- q is the part around p, or stands inside it
-  abbrev pub Within : ℕ → Type 0
-  Within q = (parentAt t p ≡ q) ⊎ Inside t (parentAt t p) q
+  abbrev pub ParentOrInside : ℕ → Type 0
+  ParentOrInside q = (parentAt t p ≡ q) ⊎ Inside t (parentAt t p) q
 
   -- the part just before p is such a part
-  pub within-first : Within (p - 1)
+  pub within-first : ParentOrInside (p - 1)
   within-first =
       let low : parentAt t p ≤ p - 1 = omega (arith, stands .0) in
       go (eq-or-lt-of-le low)
     where
-      go : (parentAt t p ≡ p - 1) ⊎ (parentAt t p < p - 1) → Within (p - 1)
+      go : (parentAt t p ≡ p - 1) ⊎ (parentAt t p < p - 1) → ParentOrInside (p - 1)
       go (inl e) = inl e
       go (inr l) = inr (l, omega (arith, stands .1))
 
-  module _ (q : ℕ) (before : q < p) (w : Within q) where
+  module _ (q : ℕ) (before : q < p) (w : ParentOrInside q) where
     -- if it has ended before p, so is the part around it
-    pub within-up : endAt t q ≤ p → Within (parentAt t q) × (parentAt t q < q)
+    pub within-up : endAt t q ≤ p → ParentOrInside (parentAt t q) × (parentAt t q < q)
     within-up ended = go w
       where
-        turn : (parentAt t q ≡ parentAt t p) ⊎ Inside t (parentAt t p) (parentAt t q) → Within (parentAt t q)
+        turn : (parentAt t q ≡ parentAt t p) ⊎ Inside t (parentAt t p) (parentAt t q) → ParentOrInside (parentAt t q)
         turn (inl e) = inl (sym e)
         turn (inr i) = inr i
 
-        go : Within q → Within (parentAt t q) × (parentAt t q < q)
+        go : ParentOrInside q → ParentOrInside (parentAt t q) × (parentAt t q < q)
         go (inl e) = absurd (omega (arith, e, stands .1, rw e at (stands .1)))
         go (inr i) = (turn (parent-inside t table (parentAt t p) q i), inside-parent t table (parentAt t p) q i .0)
 
@@ -58,7 +58,7 @@ module _ (t : List ℕ) (table : isTable t ≡ true) (p : ℕ) (first : 0 < p) (
         other i (inl e) = sym e
         other i (inr j) = absurd (omega (arith, i .0, j .0))
 
-        go : Within q → q ≡ parentAt t p
+        go : ParentOrInside q → q ≡ parentAt t p
         go (inl e) = sym e
         go (inr i) = other i (parent-inside t table q p (before, later))
 

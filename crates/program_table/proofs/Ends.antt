@@ -24,11 +24,11 @@ use Rattle.meaning.proofs.Trees.{All, part-ind, size-law}
 use Rattle.meaning.proofs.Files.{accepted, held-tree, single-part}
 use Rattle.meaning.proofs.Tables.{table-held, compiled-is}
 use Rattle.meaning.proofs.Entries.{entry-allowed}
-use Rattle.meaning.proofs.Lies.{Lies, LieIn, own-row, inside, first-lies, others-lie, root-lies}
+use Rattle.meaning.proofs.Lies.{Lies, LieIn, own-row, children-lie, first-lies, others-lie, root-lies}
 use Rattle.program_walk.specs.Walk.{partAt, partsEnd}
 use Rattle.program_walk.proofs.Standing.{peel, past, part-is}
-use Rattle.program_walk.proofs.Ending.{Fine, Whole, whole-reached}
-use Rattle.program_table.specs.Checking.{endHeld, Ending}
+use Rattle.program_walk.proofs.Ending.{Fine, WholeTree, whole-reached}
+use Rattle.program_table.specs.Checking.{endStored, Ending}
 
 -- A part that lies in a table ends there where the entries say
 module _ (t : List ℕ) (es : List Entry) where
@@ -56,7 +56,7 @@ module _ (t : List ℕ) (es : List Entry) where
     where
       go : (p ≡ i) ⊎ (p < i) → endAt t i ≡ i + size (partAt es i)
       go (inl e) = rw (← e) (own-row l .end-is ∙ ap (λ (d : Part). p + size d) (sym (part-is es p c later s)))
-      go (inr m) = agree-in (children c) h later (inside l) (inner-trees p c later (drop p es) refl s) i m (omega (arith, size-law c))
+      go (inr m) = agree-in (children c) h later (children-lie l) (inner-trees p c later (drop p es) refl s) i m (omega (arith, size-law c))
 
   pub agree : (c : Part) → Agree c
   agree c = part-ind Agree agree-part c
@@ -70,8 +70,8 @@ module _ (t : List ℕ) where
   all-agree s c h l p b = agree s es c 0 noPart noPart [] l h p (omega arith) (omega arith)
 
   -- A walk that ends at the last part: the bytes hold a program, and their ends are those implied
-  pub ending-found : Whole Table t (endHeld t) maxDepth → programRefusal Table t ≡ 0 → Ending t
-  unfolding endHeld
+  pub ending-found : WholeTree Table t (endStored t) maxDepth → programRefusal Table t ≡ 0 → Ending t
+  unfolding endStored
   ending-found w z =
       let a = accepted Table t z in
       let tree : trees es ≡ some (a .0 ∷ []) = single-part (trees es) (a .0) (unfold treeOf in a .1) in
@@ -82,21 +82,21 @@ module _ (t : List ℕ) where
       }
 
   -- And a table passes it
-  pub table-ends : isTable t ≡ true → partsEnd Table t (endHeld t) maxDepth 1 0 ≡ parts t
-  unfolding endHeld
+  pub table-ends : isTable t ≡ true → partsEnd Table t (endStored t) maxDepth 1 0 ≡ parts t
+  unfolding endStored
   table-ends table =
       let x = table-held t table in
       let tree : trees es ≡ some (x .0 ∷ []) = single-part (trees es) (x .0) (unfold treeOf in held-tree Table t (x .0) (x .1)) in
       let lies : Lies t (x .0) 0 noPart noPart = subst (λ s. Lies s (x .0) 0 noPart noPart) (sym (x .2)) (root-lies (variables t) (clocks t) (x .0) (x .1 .within)) in
-      let fine : (p : ℕ) → p < parts t → Fine Table t (endHeld t) p = λ p b. record { allowed = entry-allowed t table p b; tested = eq-eqb (p + size (partAt es p)) (endAt t p) (sym (all-agree t (x .0) tree lies p (omega (arith, x .1 .parts-are)))) } in
-      whole-reached Table t (endHeld t) fine maxDepth (x .0) tree ∙ rw (le-leb (depth (x .0)) maxDepth (x .1 .within .depth-fits)) (omega (arith, x .1 .parts-are))
+      let fine : (p : ℕ) → p < parts t → Fine Table t (endStored t) p = λ p b. record { allowed = entry-allowed t table p b; tested = eq-eqb (p + size (partAt es p)) (endAt t p) (sym (all-agree t (x .0) tree lies p (omega (arith, x .1 .parts-are)))) } in
+      whole-reached Table t (endStored t) fine maxDepth (x .0) tree ∙ rw (le-leb (depth (x .0)) maxDepth (x .1 .within .depth-fits)) (omega (arith, x .1 .parts-are))
 
 -- An end compared with the one that the row says
 module _ (t : List ℕ) (q x r : ℕ) (r-is : r ≡ endAt t q) where
-  pub end-same : x ≡ r → endHeld t q x ≡ true
-  unfolding endHeld
+  pub end-same : x ≡ r → endStored t q x ≡ true
+  unfolding endStored
   end-same h = eq-eqb x (endAt t q) (h ∙ r-is)
 
-  pub end-differs : (x ≡ r → ⊥) → endHeld t q x ≡ false
-  unfolding endHeld
+  pub end-differs : (x ≡ r → ⊥) → endStored t q x ≡ false
+  unfolding endStored
   end-differs h = ne-eqb x (endAt t q) (λ e. h (e ∙ sym r-is))

@@ -23,7 +23,7 @@ use Rattle.meaning.proofs.Files.{Holds, accepted}
 use Rattle.meaning.proofs.Tables.{compiled-is, tree-table, table-holds, table-accepted}
 use Rattle.meaning.proofs.Lies.{Lies, own-row, root-lies}
 use Rattle.meaning.proofs.Nesting.{Inside}
-use Rattle.program_part.specs.Held.{Held}
+use Rattle.program_part.specs.Readable.{Readable}
 use Rattle.program_walk.proofs.Entries.{entries-at}
 use Rattle.program_table.specs.declared.checking.Links.{Links}
 use Rattle.program_table.specs.Checking.{Ending, ParentsAgree, linksIn, rowByte, byteIs, rowIs, rowsAre}
@@ -97,8 +97,8 @@ module _ (t : List ℕ) (p : ℕ) (first : 0 < p) (there : p < parts t) (agreein
     climb-found h = within-found (compiled Table t) table p first inside q (w .before) (w .within) (omega (arith, end-is))
 
 -- The part around p can be read
-pub parent-held : (t : List ℕ) (p : ℕ) → ParentsAgree t p → Held Table t p → 0 < p → (q : ℕ) → q ≡ parentAt (compiled Table t) p → Held Table t q
-parent-held t p agreeing h some q q-is =
+pub parent-readable : (t : List ℕ) (p : ℕ) → ParentsAgree t p → Readable Table t p → 0 < p → (q : ℕ) → q ≡ parentAt (compiled Table t) p → Readable Table t q
+parent-readable t p agreeing h some q q-is =
     let inside : p < parts (compiled Table t) = omega (arith, h .there, same-parts t (agreeing .ending)) in
     let before : q < p = omega (arith, q-is, parent-before (compiled Table t) (whole-table t (agreeing .ending)) p some inside) in
     record { long = h .long; there = omega (arith, h .there) }

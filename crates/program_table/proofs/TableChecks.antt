@@ -14,8 +14,8 @@ use Rattle.meaning.specs.Table.{isTable}
 use Rattle.meaning.proofs.Files.{accepted}
 use Rattle.meaning.proofs.Tables.{table-checked}
 use Rattle.program_walk.specs.Walk.{partsEnd}
-use Rattle.program_refusals.proofs.Refusals.{too-short, sizes-refused, length-refused, parts-refused, some-part, no-end, found-whole, parts-pass}
-use Rattle.program_table.specs.Checking.{endHeld, Ending, rowsAre}
+use Rattle.program_refusals.proofs.Refusals.{too-short, sizes-refused, length-refused, parts-refused, has-parts, no-end, found-whole, parts-pass}
+use Rattle.program_table.specs.Checking.{endStored, Ending, rowsAre}
 use Rattle.program_table.proofs.Ends.{ending-found, table-ends}
 use Rattle.program_table.proofs.RowChecks.{rows-same}
 
@@ -33,20 +33,20 @@ module _ (t : List ℕ) where
     pub table-long : (length t ≡ m → ⊥) → false ≡ isTable t
     table-long g = refused-by 2 (sym (length-refused Table t r n m h e f n-is m-is g))
 
-    module _ (long : length t ≡ m) (x k : ℕ) (x-is : x ≡ partsEnd Table t (endHeld t) maxDepth 1 0) (k-is : k ≡ parts t) where
+    module _ (long : length t ≡ m) (x k : ℕ) (x-is : x ≡ partsEnd Table t (endStored t) maxDepth 1 0) (k-is : k ≡ parts t) where
       pub ends-refused : (x ≡ k → ⊥) → false ≡ isTable t
       ends-refused g = go (isTable t) refl
         where
           go : (y : Bool) → isTable t ≡ y → false ≡ isTable t
-          go true z = absurd (no-end Table t (endHeld t) x k x-is k-is g (table-ends t z))
+          go true z = absurd (no-end Table t (endStored t) x k x-is k-is g (table-ends t z))
           go false z = sym z
 
       module _ (g : x ≡ k) where
         pub ends-found : Ending t
         ends-found =
-            let some : 1 ≤ parts t = some-part r t e f in
-            ending-found t (found-whole Table t (endHeld t) x k x-is k-is some g)
-            (sym (parts-refused Table t r n m h e f n-is m-is 0 long (parts-pass Table t (endHeld t) x k x-is k-is some g)))
+            let some : 1 ≤ parts t = has-parts r t e f in
+            ending-found t (found-whole Table t (endStored t) x k x-is k-is some g)
+            (sym (parts-refused Table t r n m h e f n-is m-is 0 long (parts-pass Table t (endStored t) x k x-is k-is some g)))
 
         pub rows-decide : (b : Bool) → b ≡ rowsAre t → b ≡ isTable t
         rows-decide b b-is = sym (table-checked t ∙ rw (ends-found .accepted) (sym (b-is ∙ rows-same t ends-found)))

@@ -13,8 +13,8 @@ use Rattle.meaning.specs.declared.Form.the-variants.{Table}
 use Rattle.program_table.specs.declared.checking.Links.{Links}
 
 -- a row says where its part ends
-unfoldable pub endHeld : List ℕ → ℕ → ℕ → Bool
-endHeld t p e = eqb e (endAt t p)
+unfoldable pub endStored : List ℕ → ℕ → ℕ → Bool
+endStored t p e = eqb e (endAt t p)
 
 -- the bytes hold a program, and each part ends where its row says
 pub record Ending (t : List ℕ) : Type 0 where

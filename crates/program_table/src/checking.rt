@@ -8,14 +8,14 @@ use meaning::sizes::NEXT_PLACE;
 use meaning::sizes::NO_PART;
 use meaning::sizes::PARENT_PLACE;
 use meaning::sizes::ROW;
-use program_part::held::end_at;
-use program_part::held::next_at;
-use program_part::held::parent_at;
-use program_part::held::parts;
-use program_part::held::read_sizes;
-use program_part::held::row_place;
 use program_part::kinds::Children;
 use program_part::kinds::children_of;
+use program_part::layout::end_at;
+use program_part::layout::next_at;
+use program_part::layout::parent_at;
+use program_part::layout::parts;
+use program_part::layout::read_sizes;
+use program_part::layout::row_place;
 use program_rows::rows::next_of;
 use program_walk::walker::entry_at;
 ghost use mathlib.Core.Path.{_≡_};
@@ -25,23 +25,23 @@ ghost use Rattle.meaning.specs.declared.Form.the-variants.{Table};
 ghost use Rattle.meaning.specs.Sizes.{rowLength, lengthOf};
 ghost use Rattle.meaning.specs.Program.{parts};
 ghost use Rattle.meaning.specs.Table.{compiled, parentAt};
-ghost use Rattle.program_part.specs.Held.{Held};
+ghost use Rattle.program_part.specs.Readable.{Readable};
 ghost use Rattle.program_walk.specs.Walk.{partsEnd};
-ghost use Rattle.program_table.specs.Checking.{endHeld, Ending, ParentsAgree, linksIn, rowByte, rowIs, rowsAre};
+ghost use Rattle.program_table.specs.Checking.{endStored, Ending, ParentsAgree, linksIn, rowByte, rowIs, rowsAre};
 
-// Where `count` parts end that stand one after the other from number p on, 0 where they do not stand
-// there, one is not allowed or stands in more than `levels` levels, or its row says another end. The
-// parts that are left fall at each call, and no call is deeper than `levels`.
+// The end of `count` parts in a row, of which part p is the first. It is 0 if there are too few parts, if a
+// part is not allowed or more than `levels` levels deep, or if its row has another end. Fewer parts remain
+// at each call, and the calls are at most `levels` deep.
 pub(crate) fn parts_end(t: &[u8], p: Number, count: Number, levels: u8) -> Number
     requires { ⌜ lengthOf Table (parts (now t)) ≤ length (now t) ⌝ }
     requires { ⌜ 0 < levels ⌝ }
-    ensures { λ r. ⌜ r ≡ partsEnd Table (now (t .entry)) (endHeld (now (t .entry))) levels count p ⌝ }
+    ensures { λ r. ⌜ r ≡ partsEnd Table (now (t .entry)) (endStored (now (t .entry))) levels count p ⌝ }
 {
     let sizes = read_sizes(t);
     let below = levels - 1;
-    let mut due = count;
+    let mut remaining = count;
     let mut q = p;
-    while due > 0 {
+    while remaining > 0 {
         if sizes.parts <= q {
             return 0;
         }
@@ -63,7 +63,7 @@ pub(crate) fn parts_end(t: &[u8], p: Number, count: Number, levels: u8) -> Numbe
             return 0;
         }
         q = e;
-        due = due - 1;
+        remaining = remaining - 1;
     }
     q
 }
@@ -78,7 +78,7 @@ pub struct Links {
 // The part in which part p stands: of those before p the innermost that has not ended. It stands around
 // the part just before p, or is that part.
 fn parent_of(t: &[u8], p: Number) -> Number
-    requires { ⌜ Held Table (now t) p ⌝ }
+    requires { ⌜ Readable Table (now t) p ⌝ }
     requires { ⌜ 0 < p ⌝ }
     requires { ⌜ ParentsAgree (now t) p ⌝ }
     ensures { λ q. ⌜ q ≡ parentAt (compiled Table (now (t .entry))) p ⌝ }
@@ -92,7 +92,7 @@ fn parent_of(t: &[u8], p: Number) -> Number
 
 // The links that are implied for part p, which is not the root.
 fn links_of(t: &[u8], p: Number) -> Links
-    requires { ⌜ Held Table (now t) p ⌝ }
+    requires { ⌜ Readable Table (now t) p ⌝ }
     requires { ⌜ 0 < p ⌝ }
     requires { ⌜ ParentsAgree (now t) p ⌝ }
     ensures { λ l. ⌜ l ≡ linksIn (compiled Table (now (t .entry))) p ⌝ }
@@ -106,7 +106,7 @@ fn links_of(t: &[u8], p: Number) -> Links
 
 // Byte j of the row of part p, which has these links: every other byte is implied by the row itself.
 fn implied(t: &[u8], p: Number, links: Links, j: usize) -> u8
-    requires { ⌜ Held Table (now t) p ⌝ }
+    requires { ⌜ Readable Table (now t) p ⌝ }
     requires { ⌜ Ending (now t) ⌝ }
     requires { ⌜ links ≡ linksIn (compiled Table (now t)) p ⌝ }
     requires { ⌜ j < rowLength ⌝ }
@@ -126,7 +126,7 @@ fn implied(t: &[u8], p: Number, links: Links, j: usize) -> u8
 
 // Whether the root's row is the one implied: the root has no parent and no next.
 fn root_matches(t: &[u8]) -> bool
-    requires { ⌜ Held Table (now t) 0 ⌝ }
+    requires { ⌜ Readable Table (now t) 0 ⌝ }
     requires { ⌜ Ending (now t) ⌝ }
     ensures { λ b. ⌜ b ≡ rowIs (now (t .entry)) 0 ⌝ }
 {
@@ -135,7 +135,7 @@ fn root_matches(t: &[u8]) -> bool
 
 // Whether every row is the one implied: it ends at the first byte that differs.
 pub(crate) fn rows_match(t: &[u8]) -> bool
-    requires { ⌜ Held Table (now t) 0 ⌝ }
+    requires { ⌜ Readable Table (now t) 0 ⌝ }
     requires { ⌜ Ending (now t) ⌝ }
     ensures { λ b. ⌜ b ≡ rowsAre (now (t .entry)) ⌝ }
 {

@@ -6,9 +6,9 @@ use crate::checking::rows_match;
 use meaning::Form;
 use meaning::sizes::HEADER;
 use meaning::sizes::MAX_DEPTH;
-use program_part::held::length_of;
-use program_part::held::parts;
-use program_part::held::sizes_allowed;
+use program_part::layout::length_of;
+use program_part::layout::parts;
+use program_part::layout::sizes_allowed;
 ghost use mathlib.Core.Path.{_≡_};
 ghost use Rattle.meaning.specs.Table.{isTable};
 

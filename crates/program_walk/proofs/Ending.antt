@@ -16,20 +16,20 @@ use Rattle.base.proofs.Lists.{cond-same}
 use Rattle.meaning.specs.declared.Entry.{Entry}
 use Rattle.meaning.specs.declared.Form.{Form}
 use Rattle.meaning.specs.Tree.{Part, children, size, depth}
-use Rattle.meaning.specs.Program.{parts, variables, clocks, entryAt, entries, allowedEntry, arityOf, trees}
+use Rattle.meaning.specs.Program.{parts, variables, clocks, entryAt, entries, entryAllowed, arityOf, trees}
 use Rattle.meaning.proofs.Trees.{size-law, depth-law}
 use Rattle.meaning.proofs.Parsing.{makes-of}
 use Rattle.program_part.specs.Children.{countIf, childrenOf}
-use Rattle.program_walk.specs.Walk.{Stands, partAt, along, acceptedBy, endWith, partEnd, partsEnd}
+use Rattle.program_walk.specs.Walk.{TreeAt, partAt, along, acceptedBy, endWith, partEnd, partsEnd}
 use Rattle.program_walk.proofs.Entries.{entries-at, entries-end}
 use Rattle.program_walk.proofs.Standing.{past, part-is, stands-below, stands-entry}
 
 -- Where a part that stands at p ends, if it is not too deep; and where parts do that stand from q on
-abbrev pub reached : ℕ → Part → ℕ → ℕ
-reached levels part p = cond (leb (depth part) levels) (p + size part) 0
+abbrev pub endWithin : ℕ → Part → ℕ → ℕ
+endWithin levels part p = cond (leb (depth part) levels) (p + size part) 0
 
-abbrev reachedAll : ℕ → List Part → ℕ → ℕ
-reachedAll levels cs q = cond (leb (largest (map depth cs)) levels) (q + sum (map size cs)) 0
+abbrev endsWithin : ℕ → List Part → ℕ → ℕ
+endsWithin levels cs q = cond (leb (largest (map depth cs)) levels) (q + sum (map size cs)) 0
 
 -- of the numbers from q on that are below e, what holds of q and of those after it holds of all
 from-on : (P : ℕ → Type 0) (q e : ℕ) → P q → ((p : ℕ) → suc q ≤ p → p < e → P p) → (p : ℕ) → q ≤ p → p < e → P p
@@ -55,7 +55,7 @@ module _ (form : Form) (s : List ℕ) (test : ℕ → ℕ → Bool) where
   arityAt p = arityOf (entryAt form s p)
 
   abbrev allowedAt : ℕ → Bool
-  allowedAt p = allowedEntry (variables s) (clocks s) (entryAt form s p)
+  allowedAt p = entryAllowed (variables s) (clocks s) (entryAt form s p)
 
   abbrev inner : (ℕ → ℕ → ℕ) → ℕ → ℕ
   inner inside p = cond (eqb (arityAt p) 0) (suc p) (inside (arityAt p) (suc p))
@@ -191,7 +191,7 @@ module _ (form : Form) (s : List ℕ) (test : ℕ → ℕ → Bool) where
 
   -- The other way round: allowed parts that stand somewhere are found to end where they do
   module _ (fine : (p : ℕ) → p < parts s → Fine p) where
-    test-passes : (levels p : ℕ) (c : Part) → p < parts s → partAt es p ≡ c → acceptedBy (test p) (reached levels c p) ≡ reached levels c p
+    test-passes : (levels p : ℕ) (c : Part) → p < parts s → partAt es p ≡ c → acceptedBy (test p) (endWithin levels c p) ≡ endWithin levels c p
     test-passes levels p c there c-is = go (leb (depth c) levels)
       where
         go : (b : Bool) → acceptedBy (test p) (cond b (p + size c) 0) ≡ cond b (p + size c) 0
@@ -199,10 +199,10 @@ module _ (form : Form) (s : List ℕ) (test : ℕ → ℕ → Bool) where
         go false = cond-same (test p 0) 0
 
     -- children are reached one after the other
-    reached-more : (levels q : ℕ) (c : Part) (cs : List Part) → cond (eqb (reached levels c q) 0) 0 (reachedAll levels cs (reached levels c q)) ≡ reachedAll levels (c ∷ cs) q
+    reached-more : (levels q : ℕ) (c : Part) (cs : List Part) → cond (eqb (endWithin levels c q) 0) 0 (endsWithin levels cs (endWithin levels c q)) ≡ endsWithin levels (c ∷ cs) q
     reached-more levels q c cs = go (leb (depth c) levels) refl (leb (largest (map depth cs)) levels) refl
       where
-        go : (x : Bool) → leb (depth c) levels ≡ x → (y : Bool) → leb (largest (map depth cs)) levels ≡ y → cond (eqb (cond x (q + size c) 0) 0) 0 (cond y (cond x (q + size c) 0 + sum (map size cs)) 0) ≡ reachedAll levels (c ∷ cs) q
+        go : (x : Bool) → leb (depth c) levels ≡ x → (y : Bool) → leb (largest (map depth cs)) levels ≡ y → cond (eqb (cond x (q + size c) 0) 0) 0 (cond y (cond x (q + size c) 0 + sum (map size cs)) 0) ≡ endsWithin levels (c ∷ cs) q
         go true x-is true y-is =
             rw (ne-eqb (q + size c) 0 (λ z. omega (arith, size-law c)), le-leb (max (depth c) (largest (map depth cs))) levels (omega (arith, leb-true (depth c) levels x-is, leb-true (largest (map depth cs)) levels y-is)))
             (omega arith)
@@ -211,37 +211,37 @@ module _ (form : Form) (s : List ℕ) (test : ℕ → ℕ → Bool) where
         go false x-is y y-is = rw (lt-leb (max (depth c) (largest (map depth cs))) levels (omega (arith, leb-false (depth c) levels x-is)))
 
     -- a part is reached with its children, one level further down
-    reached-part : (levels p : ℕ) (c : Part) → reachedAll levels (children c) (suc p) ≡ reached (suc levels) c p
+    reached-part : (levels p : ℕ) (c : Part) → endsWithin levels (children c) (suc p) ≡ endWithin (suc levels) c p
     reached-part levels p c = go (leb (largest (map depth (children c))) levels) refl
       where
-        go : (b : Bool) → leb (largest (map depth (children c))) levels ≡ b → cond b (suc p + sum (map size (children c))) 0 ≡ reached (suc levels) c p
+        go : (b : Bool) → leb (largest (map depth (children c))) levels ≡ b → cond b (suc p + sum (map size (children c))) 0 ≡ endWithin (suc levels) c p
         go true t = rw (le-leb (depth c) (suc levels) (omega (arith, depth-law c, leb-true (largest (map depth (children c))) levels t))) (omega (arith, size-law c))
         go false t = rw (lt-leb (depth c) (suc levels) (omega (arith, depth-law c, leb-false (largest (map depth (children c))) levels t)))
 
     Reach : ℕ → Type 0
-    Reach levels = (q : ℕ) (cs later : List Part) → trees (drop q es) ≡ some (cs ++ later) → (length cs ≡ 0 → ⊥) → partsEnd form s test levels (length cs) q ≡ reachedAll levels cs q
+    Reach levels = (q : ℕ) (cs later : List Part) → trees (drop q es) ≡ some (cs ++ later) → (length cs ≡ 0 → ⊥) → partsEnd form s test levels (length cs) q ≡ endsWithin levels cs q
 
-    part-reached : (levels : ℕ) → Reach levels → (p : ℕ) (c : Part) (later : List Part) → trees (drop p es) ≡ some (c ∷ later) → partEnd form s test (partsEnd form s test levels) p ≡ reached (suc levels) c p
+    part-reached : (levels : ℕ) → Reach levels → (p : ℕ) (c : Part) (later : List Part) → trees (drop p es) ≡ some (c ∷ later) → partEnd form s test (partsEnd form s test levels) p ≡ endWithin (suc levels) c p
     unfolding Reach partEnd childrenOf
     part-reached levels reach p c later h =
-        let st : Stands es p = record { part = c; later = later; is = h } in
+        let st : TreeAt es p = record { part = c; later = later; is = h } in
         let there : p < parts s = stands-below form s p st in
         let peeled = stands-entry form s p st in
-        let inner-is : inner (partsEnd form s test levels) p ≡ reached (suc levels) c p = inner-reached (children c) refl (peeled .arity-is) (peeled .inside) ∙ reached-part levels p c in
+        let inner-is : inner (partsEnd form s test levels) p ≡ endWithin (suc levels) c p = inner-reached (children c) refl (peeled .arity-is) (peeled .inside) ∙ reached-part levels p c in
         rw (lt-ltb p (parts s) there, fine p there .allowed) (ap (acceptedBy (test p)) inner-is ∙ test-passes (suc levels) p c there (part-is es p c later h))
       where
-        inner-reached : (cs : List Part) → children c ≡ cs → arityAt p ≡ length (children c) → trees (drop (suc p) es) ≡ some (children c ++ later) → inner (partsEnd form s test levels) p ≡ reachedAll levels (children c) (suc p)
+        inner-reached : (cs : List Part) → children c ≡ cs → arityAt p ≡ length (children c) → trees (drop (suc p) es) ≡ some (children c ++ later) → inner (partsEnd form s test levels) p ≡ endsWithin levels (children c) (suc p)
         inner-reached [] cs-are a i = rw (a, cs-are, le-leb 0 levels (omega arith)) (omega arith)
         inner-reached (d ∷ ds) cs-are a i = rw (a, cs-are, ne-eqb (suc (length ds)) 0 (λ z. omega arith)) (reach (suc p) (d ∷ ds) later (i ∙ ap (λ (xs : List Part). some (xs ++ later)) cs-are) (λ z. omega arith))
 
-    along-reached : (levels : ℕ) (end : ℕ → ℕ) → ((p : ℕ) (c : Part) (later : List Part) → trees (drop p es) ≡ some (c ∷ later) → end p ≡ reached levels c p) → (q : ℕ) (cs later : List Part) → trees (drop q es) ≡ some (cs ++ later) → along end (length cs) q ≡ reachedAll levels cs q
+    along-reached : (levels : ℕ) (end : ℕ → ℕ) → ((p : ℕ) (c : Part) (later : List Part) → trees (drop p es) ≡ some (c ∷ later) → end p ≡ endWithin levels c p) → (q : ℕ) (cs later : List Part) → trees (drop q es) ≡ some (cs ++ later) → along end (length cs) q ≡ endsWithin levels cs q
     unfolding along
     along-reached levels end single q [] later h = rw (le-leb 0 levels (omega arith)) (omega arith)
     along-reached levels end single q (c ∷ cs) later h =
         rw (single q c (cs ++ later) h) (go (along-reached levels end single (q + size c) cs later (ap trees (sym (drop-drop (size c) q es)) ∙ past c (drop q es) (cs ++ later) h)) (leb (depth c) levels))
         ∙ reached-more levels q c cs
       where
-        go : along end (length cs) (q + size c) ≡ reachedAll levels cs (q + size c) → (b : Bool) → cond (eqb (cond b (q + size c) 0) 0) 0 (along end (length cs) (cond b (q + size c) 0)) ≡ cond (eqb (cond b (q + size c) 0) 0) 0 (reachedAll levels cs (cond b (q + size c) 0))
+        go : along end (length cs) (q + size c) ≡ endsWithin levels cs (q + size c) → (b : Bool) → cond (eqb (cond b (q + size c) 0) 0) 0 (along end (length cs) (cond b (q + size c) 0)) ≡ cond (eqb (cond b (q + size c) 0) 0) 0 (endsWithin levels cs (cond b (q + size c) 0))
         go others true = ap (cond (eqb (q + size c) 0) 0) others
         go others false = refl
 
@@ -253,7 +253,7 @@ module _ (form : Form) (s : List ℕ) (test : ℕ → ℕ → Bool) where
         along-reached (suc levels) (partEnd form s test (partsEnd form s test levels)) (part-reached levels (parts-reached levels)) q cs later h
 
     -- a tree that stands alone is found to end where it does
-    pub whole-reached : (levels : ℕ) (c : Part) → trees es ≡ some (c ∷ []) → partsEnd form s test levels 1 0 ≡ reached levels c 0
+    pub whole-reached : (levels : ℕ) (c : Part) → trees es ≡ some (c ∷ []) → partsEnd form s test levels 1 0 ≡ endWithin levels c 0
     unfolding Reach
     whole-reached levels c h =
         let deepest : max (depth c) 0 ≡ depth c = omega arith in
@@ -261,19 +261,19 @@ module _ (form : Form) (s : List ℕ) (test : ℕ → ℕ → Bool) where
         parts-reached levels 0 (c ∷ []) [] h (λ z. omega arith) ∙ rw (deepest, long)
 
   -- What a walk that ends at the last part says: one tree stands, and each part of it is fine
-  pub record Whole (levels : ℕ) : Type 0 where
+  pub record WholeTree (levels : ℕ) : Type 0 where
     pub part : Part
     pub tree : trees es ≡ some (part ∷ [])
     pub shallow : depth part ≤ levels
     pub fine : (p : ℕ) → p < parts s → Fine p
 
-  pub whole : (levels : ℕ) → partsEnd form s test levels 1 0 ≡ parts s → (parts s ≡ 0 → ⊥) → Whole levels
+  pub whole : (levels : ℕ) → partsEnd form s test levels 1 0 ≡ parts s → (parts s ≡ 0 → ⊥) → WholeTree levels
   unfolding End trees
   whole levels h some-part =
       let w : EndAll levels 0 (parts s) 1 [] = parts-ends levels 1 0 (parts s) [] h some-part (ap trees (entries-end form s)) in
       go (w .found) (w .many) (w .stand) (w .shallow) (w .fine)
     where
-      go : (ps : List Part) → length ps ≡ 1 → trees es ≡ some (ps ++ []) → largest (map depth ps) ≤ levels → ((p : ℕ) → 0 ≤ p → p < parts s → Fine p) → Whole levels
+      go : (ps : List Part) → length ps ≡ 1 → trees es ≡ some (ps ++ []) → largest (map depth ps) ≤ levels → ((p : ℕ) → 0 ≤ p → p < parts s → Fine p) → WholeTree levels
       go [] l t d f = absurd (omega arith)
       go (p ∷ []) l t d f = record { part = p; tree = t; shallow = omega (arith, d); fine = λ i b. f i (omega arith) b }
       go (p ∷ q ∷ ps) l t d f = absurd (omega arith)

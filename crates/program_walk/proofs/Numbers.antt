@@ -12,5 +12,5 @@ abbrev pub number : RattleType
 number = UInt width
 
 -- the numbers that the type holds
-abbrev pub Held : ℕ → Type 0
-Held n = n < 2 ^ bits width
+abbrev pub FitsNumber : ℕ → Type 0
+FitsNumber n = n < 2 ^ bits width

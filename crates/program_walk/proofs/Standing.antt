@@ -16,9 +16,9 @@ use Rattle.meaning.specs.declared.Form.{Form}
 use Rattle.meaning.specs.Sizes.{lengthOf}
 use Rattle.meaning.specs.Kinds.{kindOf}
 use Rattle.meaning.specs.Tree.{Part, kind, children, size}
-use Rattle.meaning.specs.Program.{parts, entries, entryAt, place, trees, follow, treeOf, isTree, arityOf}
-use Rattle.program_walk.specs.Walk.{Stands, Walkable, firstOf, partAt}
-use Rattle.program_part.specs.Held.{Held}
+use Rattle.meaning.specs.Program.{parts, entries, entryAt, takeChildren, trees, follow, treeOf, isTree, arityOf}
+use Rattle.program_walk.specs.Walk.{TreeAt, Walkable, firstOf, partAt}
+use Rattle.program_part.specs.Readable.{Readable}
 use Rattle.meaning.proofs.Trees.{All, part-ind, size-law}
 use Rattle.meaning.proofs.Parsing.{Placed, placed}
 use Rattle.meaning.proofs.Files.{some-part, single-part}
@@ -44,11 +44,11 @@ peel e es p ps h = go (trees es) refl h
           inside = is ∙ ap some (d .inner ∙ cc (same-part, same-rest));
         }
 
-    go : (o : Option (List Part)) → trees es ≡ o → follow (place e) o ≡ some (p ∷ ps) → Peeled e es p ps
+    go : (o : Option (List Part)) → trees es ≡ o → follow (takeChildren e) o ≡ some (p ∷ ps) → Peeled e es p ps
     go none is q = absurd (let z : _≡_ {A = ℕ} 0 1 = cc in omega arith)
     go (some qs) is q = known qs is (placed e qs (p ∷ ps) q)
 
--- After a part's own entries stand the parts that follow it
+-- The entries after those of a part, and of all inside it, form the parts that follow it
 abbrev Past : Part → Type 0
 Past p = (es : List Entry) (ps : List Part) → trees es ≡ some (p ∷ ps) → trees (drop (size p) es) ≡ some ps
 
@@ -72,7 +72,7 @@ unfolding partAt
 part-is es n p ps h = ap firstOf h
 
 -- A part stands only below the number of parts
-pub stands-below : (form : Form) (s : List ℕ) (n : ℕ) → Stands (entries form s) n → n < parts s
+pub stands-below : (form : Form) (s : List ℕ) (n : ℕ) → TreeAt (entries form s) n → n < parts s
 unfolding trees
 stands-below form s n st = go (ltb n (parts s)) refl
   where
@@ -81,29 +81,29 @@ stands-below form s n st = go (ltb n (parts s)) refl
     go false e = absurd (let z : _≡_ {A = ℕ} 0 1 = cc (st .is, ap trees (entries-past form s n (ltb-false n (parts s) e))) in omega arith)
 
 -- and can be read there
-pub stands-held : (form : Form) (s : List ℕ) (n : ℕ) → lengthOf form (parts s) ≤ length s → Stands (entries form s) n → Held form s n
-stands-held form s n long st = record { long = long; there = stands-below form s n st }
+pub tree-readable : (form : Form) (s : List ℕ) (n : ℕ) → lengthOf form (parts s) ≤ length s → TreeAt (entries form s) n → Readable form s n
+tree-readable form s n long st = record { long = long; there = stands-below form s n st }
 
-pub walkable-held : (form : Form) (s : List ℕ) (n : ℕ) → Walkable form s n → Held form s n
-walkable-held form s n w = stands-held form s n (w .long) (w .stands)
+pub walkable-readable : (form : Form) (s : List ℕ) (n : ℕ) → Walkable form s n → Readable form s n
+walkable-readable form s n w = tree-readable form s n (w .long) (w .stands)
 
 -- The entry of the part that stands at a number, and the parts inside it
-pub stands-entry : (form : Form) (s : List ℕ) (n : ℕ) (st : Stands (entries form s) n)
+pub stands-entry : (form : Form) (s : List ℕ) (n : ℕ) (st : TreeAt (entries form s) n)
     → Peeled (entryAt form s n) (drop (suc n) (entries form s)) (st .part) (st .later)
 stands-entry form s n st =
     peel (entryAt form s n) (drop (suc n) (entries form s)) (st .part) (st .later)
     (ap trees (sym (entries-at form s n (stands-below form s n st))) ∙ st .is)
 
 -- What is left of a part's children while the walk goes over them
-pub record Left (es : List Entry) (q due : ℕ) : Type 0 where
+pub record ChildrenLeft (es : List Entry) (q remaining : ℕ) : Type 0 where
   pub parts : List Part
   pub later : List Part
   pub is : trees (drop q es) ≡ some (parts ++ later)
-  pub many : due ≡ length parts
+  pub many : remaining ≡ length parts
 
 -- all children are left at first
-abbrev pub left-first : (form : Form) (s : List ℕ) (n due : ℕ) → Stands (entries form s) n → due ≡ arityOf (entryAt form s n) → Left (entries form s) (n + 1) due
-left-first form s n due st e =
+abbrev pub left-first : (form : Form) (s : List ℕ) (n remaining : ℕ) → TreeAt (entries form s) n → remaining ≡ arityOf (entryAt form s n) → ChildrenLeft (entries form s) (n + 1) remaining
+left-first form s n remaining st e =
     record {
       parts = children (st .part);
       later = st .later;
@@ -112,30 +112,30 @@ left-first form s n due st e =
     }
 
 -- The first of the children that are left
-pub record First (es : List Entry) (q due : ℕ) (left : Left es q due) : Type 0 where
+pub record First (es : List Entry) (q remaining : ℕ) (left : ChildrenLeft es q remaining) : Type 0 where
   pub part : Part
   pub rest : List Part
   pub are : left .parts ≡ part ∷ rest
 
-pub left-head : (es : List Entry) (q due : ℕ) (left : Left es q due) → 0 < due → First es q due left
-left-head es q due left h = go (left .parts) refl
+pub left-head : (es : List Entry) (q remaining : ℕ) (left : ChildrenLeft es q remaining) → 0 < remaining → First es q remaining left
+left-head es q remaining left h = go (left .parts) refl
   where
-    go : (ps : List Part) → left .parts ≡ ps → First es q due left
+    go : (ps : List Part) → left .parts ≡ ps → First es q remaining left
     go [] e = absurd (omega (arith, left .many ∙ ap length e))
     go (p ∷ ps) e = record { part = p; rest = ps; are = e }
 
-module _ (es : List Entry) (q due : ℕ) (left : Left es q due) (f : First es q due left) where
+module _ (es : List Entry) (q remaining : ℕ) (left : ChildrenLeft es q remaining) (f : First es q remaining left) where
   pub head-is : trees (drop q es) ≡ some (f .part ∷ (f .rest ++ left .later))
   head-is = left .is ∙ ap (λ (ps : List Part). some (ps ++ left .later)) (f .are)
 
-  pub head-stands : Stands es q
+  pub head-stands : TreeAt es q
   head-stands = record { part = f .part; later = f .rest ++ left .later; is = head-is }
 
   pub head-part : partAt es q ≡ f .part
   head-part = part-is es q (f .part) (f .rest ++ left .later) head-is
 
-  -- past it stand the others
-  abbrev pub left-more : Left es (q + size (f .part)) (due - 1)
+  -- after it come the other children
+  abbrev pub left-more : ChildrenLeft es (q + size (f .part)) (remaining - 1)
   left-more =
       record {
         parts = f .rest;

@@ -14,16 +14,16 @@ use Rattle.meaning.specs.declared.Form.{Form}
 use Rattle.meaning.specs.Program.{parts, variables, clocks, entryAt}
 use Rattle.program_part.specs.declared.kinds.Children.{Children}
 use Rattle.program_part.specs.declared.kinds.Children.the-variants.{Count, NotAllowed}
-use Rattle.program_part.specs.declared.held.Sizes.{Sizes}
-use Rattle.program_part.specs.Held.{sizesIn}
+use Rattle.program_part.specs.declared.layout.Sizes.{Sizes}
+use Rattle.program_part.specs.Readable.{sizesIn}
 use Rattle.program_part.specs.Children.{childrenOf}
 use Rattle.program_walk.specs.Walk.{along, endWith, partEnd, partsEnd}
 use Rattle.program_walk.proofs.Ending.{part-further, parts-further}
 
 -- the parts that are left, from q on, end where all of them do, which stand from p on
-pub record Walking (form : Form) (s : List ℕ) (test : ℕ → ℕ → Bool) (levels p q due whole : ℕ) : Type 0 where
+pub record Walking (form : Form) (s : List ℕ) (test : ℕ → ℕ → Bool) (levels p q remaining whole : ℕ) : Type 0 where
   pub from : p ≤ q
-  pub comes : along (partEnd form s test (partsEnd form s test (levels - 1))) due q ≡ whole
+  pub comes : along (partEnd form s test (partsEnd form s test (levels - 1))) remaining q ≡ whole
 
 module _ (form : Form) (s : List ℕ) (test : ℕ → ℕ → Bool) (levels p count : ℕ) where
   pub no-level : levels ≡ 0 → 0 ≡ partsEnd form s test levels count p
@@ -38,12 +38,12 @@ module _ (form : Form) (s : List ℕ) (test : ℕ → ℕ → Bool) (levels p co
       go zero h = absurd (omega (arith, h))
       go (suc l) h = record { from = omega arith; comes = let k : suc l - 1 ≡ l = omega arith in rw k }
 
-module _ (form : Form) (s : List ℕ) (test : ℕ → ℕ → Bool) (levels p q due whole : ℕ) (w : Walking form s test levels p q due whole) where
-  pub walk-ends : due ≤ 0 → q ≡ whole
+module _ (form : Form) (s : List ℕ) (test : ℕ → ℕ → Bool) (levels p q remaining whole : ℕ) (w : Walking form s test levels p q remaining whole) where
+  pub walk-ends : remaining ≤ 0 → q ≡ whole
   unfolding along
-  walk-ends h = let z : due ≡ 0 = omega arith in rw z at (w .comes)
+  walk-ends h = let z : remaining ≡ 0 = omega arith in rw z at (w .comes)
 
-  module _ (some-due : 0 < due) (z : Sizes) (z-is : z ≡ sizesIn s) where
+  module _ (some-remaining : 0 < remaining) (z : Sizes) (z-is : z ≡ sizesIn s) where
     abbrev inside : ℕ → ℕ → ℕ
     inside = partsEnd form s test (levels - 1)
 
@@ -51,9 +51,9 @@ module _ (form : Form) (s : List ℕ) (test : ℕ → ℕ → Bool) (levels p q 
     end = partEnd form s test inside q
 
     -- the first part that is left, and the others
-    next : cond (eqb end 0) 0 (along (partEnd form s test inside) (due - 1) end) ≡ whole
+    next : cond (eqb end 0) 0 (along (partEnd form s test inside) (remaining - 1) end) ≡ whole
     unfolding along
-    next = let k : due ≡ suc (due - 1) = omega arith in rw k at (w .comes)
+    next = let k : remaining ≡ suc (remaining - 1) = omega arith in rw k at (w .comes)
 
     stops : end ≡ 0 → 0 ≡ whole
     stops e = rw (eq-eqb end 0 e) at next
@@ -78,14 +78,14 @@ module _ (form : Form) (s : List ℕ) (test : ℕ → ℕ → Bool) (levels p q 
 
       module _ (n : ℕ) (n-is : c ≡ Count n) where
         -- a part that has no children ends right after itself, any other where its children do
-        abbrev pub Child : ℕ → Type 0
-        Child x = ((0 < n) × (x ≡ partsEnd form s test (levels - 1) n (q + 1))) ⊎ ((n ≤ 0) × (x ≡ q + 1))
+        abbrev pub ChildrenEnd : ℕ → Type 0
+        ChildrenEnd x = ((0 < n) × (x ≡ partsEnd form s test (levels - 1) n (q + 1))) ⊎ ((n ≤ 0) × (x ≡ q + 1))
 
-        child-ends : (x : ℕ) → Child x → endWith inside c q ≡ x
+        child-ends : (x : ℕ) → ChildrenEnd x → endWith inside c q ≡ x
         child-ends x (inl h) = rw (n-is, ne-eqb n 0 (λ z. omega (arith, h .0)), h .1, add-one q)
         child-ends x (inr h) = rw (n-is, eq-eqb n 0 (omega (arith, h .0)), h .1, add-one q)
 
-        module _ (x : ℕ) (child : Child x) where
+        module _ (x : ℕ) (child : ChildrenEnd x) where
           found : end ≡ cond (test q x) x 0
           found = end-is ∙ ap (λ (i : ℕ). cond (test q i) i 0) (child-ends x child)
 
@@ -95,11 +95,11 @@ module _ (form : Form) (s : List ℕ) (test : ℕ → ℕ → Bool) (levels p q 
           pub walk-differs : test q x ≡ false → 0 ≡ whole
           walk-differs t = stops (found ∙ rw t)
 
-          pub walk-on : (x ≡ 0 → ⊥) → test q x ≡ true → Walking form s test levels p x (due - 1) whole
+          pub walk-on : (x ≡ 0 → ⊥) → test q x ≡ true → Walking form s test levels p x (remaining - 1) whole
           walk-on some-end t =
               let ends : end ≡ x = found ∙ rw t in
               let ended : end ≡ 0 → ⊥ = λ d. some-end (sym ends ∙ d) in
               record {
                 from = omega (arith, w .from, ends, part-further form s test inside (parts-further form s test (levels - 1)) q ended);
-                comes = ap (along (partEnd form s test inside) (due - 1)) (sym ends) ∙ (rw (ne-eqb end 0 ended) at next);
+                comes = ap (along (partEnd form s test inside) (remaining - 1)) (sym ends) ∙ (rw (ne-eqb end 0 ended) at next);
               }

@@ -10,14 +10,14 @@ use Rattle.meaning.specs.declared.Entry.{Entry}
 use Rattle.meaning.specs.declared.Form.{Form}
 use Rattle.meaning.specs.declared.Form.the-variants.{File}
 use Rattle.meaning.specs.Sizes.{lengthOf}
-use Rattle.meaning.specs.Tree.{Part, goal, counted}
+use Rattle.meaning.specs.Tree.{Part, goal, countOperand}
 use Rattle.meaning.specs.Program.{parts, variables, clocks, trees, entryAt, entries}
 use Rattle.program_part.specs.declared.kinds.Children.{Children}
 use Rattle.program_part.specs.declared.kinds.Children.the-variants.{Count, NotAllowed}
 use Rattle.program_part.specs.Children.{childrenOf}
 
 -- A tree begins at entry p: the walk is asked of such places alone
-pub record Stands (es : List Entry) (p : ℕ) : Type 0 where
+pub record TreeAt (es : List Entry) (p : ℕ) : Type 0 where
   pub part : Part
   pub later : List Part
   pub is : trees (drop p es) ≡ some (part ∷ later)
@@ -29,7 +29,7 @@ Long s = lengthOf File (parts s) ≤ length s
 -- the same in bytes that are as long as their parts need
 pub record Walkable (form : Form) (s : List ℕ) (p : ℕ) : Type 0 where
   pub long : lengthOf form (parts s) ≤ length s
-  pub stands : Stands (entries form s) p
+  pub stands : TreeAt (entries form s) p
 
 -- one tree stands in a file that is as long as its parts need, and nothing else
 pub record OneTree (s : List ℕ) : Type 0 where
@@ -38,8 +38,8 @@ pub record OneTree (s : List ℕ) : Type 0 where
   pub is : trees (entries File s) ≡ some (part ∷ [])
 
 abbrev pub firstOf : Option (List Part) → Part
-firstOf none = goal (counted 0)
-firstOf (some []) = goal (counted 0)
+firstOf none = goal (countOperand 0)
+firstOf (some []) = goal (countOperand 0)
 firstOf (some (p ∷ ps)) = p
 
 -- that tree

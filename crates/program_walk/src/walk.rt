@@ -3,9 +3,9 @@
 use crate::walker::entry_at;
 use meaning::Form;
 use meaning::Number;
-use program_part::held::read_sizes;
 use program_part::kinds::Children;
 use program_part::kinds::children_of;
+use program_part::layout::read_sizes;
 ghost use mathlib.Core.Path.{_≡_};
 ghost use Prim.Native.Nat.{_<_, _≤_};
 ghost use lib.ListN.{length};
@@ -14,9 +14,9 @@ ghost use Rattle.meaning.specs.Sizes.{lengthOf};
 ghost use Rattle.meaning.specs.Program.{parts};
 ghost use Rattle.program_walk.specs.Walk.{anyEnd, partsEnd};
 
-// Where `count` parts end that stand one after the other from number p on, 0 where they do not stand
-// there, one is not allowed, or one stands in more than `levels` levels. A part recurses into its
-// children: the parts that are left fall at each call, and no call is deeper than `levels`.
+// The end of `count` parts in a row, of which part p is the first. It is 0 if there are too few parts, if a
+// part is not allowed, or if one is more than `levels` levels deep. The function calls itself for the
+// children of a part: fewer parts remain at each call, and the calls are at most `levels` deep.
 pub(crate) fn parts_end(s: &[u8], p: Number, count: Number, levels: u8) -> Number
     requires { ⌜ lengthOf File (parts (now s)) ≤ length (now s) ⌝ }
     requires { ⌜ 0 < levels ⌝ }
@@ -24,9 +24,9 @@ pub(crate) fn parts_end(s: &[u8], p: Number, count: Number, levels: u8) -> Numbe
 {
     let sizes = read_sizes(s);
     let below = levels - 1;
-    let mut due = count;
+    let mut remaining = count;
     let mut q = p;
-    while due > 0 {
+    while remaining > 0 {
         if sizes.parts <= q {
             return 0;
         }
@@ -45,7 +45,7 @@ pub(crate) fn parts_end(s: &[u8], p: Number, count: Number, levels: u8) -> Numbe
             }
         }
         q = e;
-        due = due - 1;
+        remaining = remaining - 1;
     }
     q
 }

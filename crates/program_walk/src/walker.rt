@@ -5,10 +5,10 @@
 use meaning::Entry;
 use meaning::Form;
 use meaning::Number;
-use program_part::held::read_entry;
+use program_part::layout::read_entry;
 ghost use mathlib.Core.Path.{_≡_};
 ghost use Rattle.meaning.specs.Program.{entryAt};
-ghost use Rattle.program_part.specs.Held.{Held};
+ghost use Rattle.program_part.specs.Readable.{Readable};
 
 pub struct Walker<'a> {
     pub file: &'a [u8],
@@ -34,7 +34,7 @@ pub fn stepped<'a>(w: Walker<'a>, p: Number) -> Walker<'a>
 
 // The kind and the operand of the part at the walker.
 pub fn part<'a>(w: Walker<'a>, form: Form) -> Entry
-    requires { ⌜ Held form (now (w .file)) (w .next) ⌝ }
+    requires { ⌜ Readable form (now (w .file)) (w .next) ⌝ }
     ensures { λ e. ⌜ e ≡ entryAt form (now (w .entry .file)) (w .entry .next) ⌝ }
 {
     read_entry(w.file, form, w.next)
@@ -42,7 +42,7 @@ pub fn part<'a>(w: Walker<'a>, form: Form) -> Entry
 
 // What s holds of part p, by way of a walker.
 pub fn entry_at(s: &[u8], form: Form, p: Number) -> Entry
-    requires { ⌜ Held form (now s) p ⌝ }
+    requires { ⌜ Readable form (now s) p ⌝ }
     ensures { λ e. ⌜ e ≡ entryAt form (now (s .entry)) p ⌝ }
 {
     part(stepped(root(s), p), form)

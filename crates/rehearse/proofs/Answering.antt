@@ -15,10 +15,10 @@ use Rattle.base.proofs.Lists.{and-left, and-right, all-append, flat-append}
 use Rattle.base.proofs.Stores.{length-bytes, getD-bytes, drop-bytes, bytes-sets}
 use Rattle.meaning.proofs.Files.{bytes-append}
 use Rattle.desk_parse.specs.Words.{isOther, leading}
-use Rattle.desk_parse.specs.Places.{place}
+use Rattle.desk_parse.specs.Places.{placeOf}
 use Rattle.desk_parse.proofs.Leading.{leading-few, leading-passes, leading-stops}
 use Rattle.desk_dispatch.specs.Making.{endsRun}
-use Rattle.desk_rehearsal.specs.Rehearsal.{heard, maxLine}
+use Rattle.desk_rehearsal.specs.Rehearsal.{parsedLine, maxLine}
 use Rattle.desk_input.specs.declared.Piece.{Piece}
 use Rattle.desk_input.specs.declared.Piece.the-variants.{Held}
 use Rattle.desk_input.specs.Reading.{Reads}
@@ -81,7 +81,7 @@ pending input s = bytesAt input (s .from) (s .held - s .from)
 
 module _ (input : List ℕ) (s : Stand) (h : (s .from ≤ s .held) × (s .held ≤ length input)) where
   next-is : nextEnd input s ≡ s .from + leading (isOther 10) (pending input s)
-  unfolding place
+  unfolding placeOf
   next-is = rw (le-leb (s .from) (s .held) (h .0)) refl
 
   -- a byte of it, before the end of the next line
@@ -123,8 +123,8 @@ module _ (input : List ℕ) (s : Stand) (h : (s .from ≤ s .held) × (s .held �
         rw (line-bytes, place-is, line-feed, add-one (nextEnd input s), append-assoc) refl
 
 -- A line that fills a buffer longer than any line ends the run
-too-long : (line : List ℕ) → maxLine < length line → endsRun (heard line) ≡ true
-unfolding heard
+too-long : (line : List ℕ) → maxLine < length line → endsRun (parsedLine line) ≡ true
+unfolding parsedLine
 too-long line h = rw (lt-leb (length line) maxLine h) refl
 
 and-none : (b : Bool) → (b && false) ≡ false

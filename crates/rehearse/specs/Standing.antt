@@ -58,7 +58,9 @@ upTo input s end = take (end - s .from) (drop (s .from) input)
 abbrev pub moved : List ℕ → Stand → List ℕ
 moved input s = sets input 0 (bytesAt input (s .from) (s .held - s .from))
 
--- One turn. A line that ends in the buffer is answered, and the input goes on after its line feed. Where no line ends there and the buffer is full, the line is too long; else what is still to be answered moves to the buffer's beginning, and more is read
+-- One turn. A line that ends in the buffer is answered, and the input goes on after its line feed. Where no line ends
+-- there and the buffer is full, the line is too long; else what is still to be answered moves to the buffer's
+-- beginning, and more is read
 pub data Takes (t r : List ℕ) (asked : Bool) (input : List ℕ) (s : Stand) (r' input' : List ℕ) (e : Stand) : Type 0 where
   line : nextEnd input s < s .held → Goes t r asked (upTo input s (nextEnd input s)) s (nextEnd input s + 1) r' e → input' ≡ input → Takes t r asked input s r' input' e
   full : s .held ≤ nextEnd input s → s .held - s .from ≡ length input → Goes t r asked (upTo input s (s .held)) s (s .held) r' e → input' ≡ input

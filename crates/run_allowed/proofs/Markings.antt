@@ -19,8 +19,8 @@ use Rattle.meaning.specs.Table.{endAt, parentAt, insideOf, isTable}
 use Rattle.meaning.specs.Record.{marksPlace, recordLength, phaseOf, marksIn, finished, isMark, markedChildren, childrenAllowed, partAllowed, partsAllowed, rootAllowed}
 use Rattle.meaning.proofs.Tables.{inside, root-there}
 use Rattle.meaning.proofs.Nesting.{Inside, nested, inner-part, closed-inside}
-use Rattle.program_part.specs.Held.{Held}
-use Rattle.program_part.proofs.Places.{row-held}
+use Rattle.program_part.specs.Readable.{Readable}
+use Rattle.program_part.proofs.Places.{row-readable}
 use Rattle.run_record.proofs.Marks.{mark-inside, marks-inside}
 use Rattle.run_allowed.specs.Inner.{innerMarks, partAfter}
 use Rattle.run_allowed.proofs.Children.{first-child, no-child, next-child, skip-count, skip-parts}
@@ -101,8 +101,8 @@ module _ (t r : List ℕ) (p e : ℕ) (table : isTable t ≡ true) (here : p < p
     child-there = inner-part t table p q inside-p
 
     -- the row and the mark of a child can be read
-    pub count-held : Held Table t q
-    count-held = row-held t q table child-there
+    pub count-held : Readable Table t q
+    count-held = row-readable t q table child-there
 
     pub count-marked : recordLength ≤ length r → marksPlace + q < length r
     count-marked long = mark-inside t table r q long child-there
@@ -167,9 +167,9 @@ module _ (t r : List ℕ) (phase n p : ℕ) (n-is : n ≡ parts t) where
     unfolding partsAllowed
     parts-split = rw b-is (rw (parts-next h) at i)
 
-    pub parts-pass : (q : ℕ) → isTable t ≡ true → q ≡ partAfter t p (getD r (marksPlace + p) 0) → not b ≡ false → partsAllowed t phase q (drop q (marksIn t r)) ≡ x
+    pub parts-allowed-pass : (q : ℕ) → isTable t ≡ true → q ≡ partAfter t p (getD r (marksPlace + p) 0) → not b ≡ false → partsAllowed t phase q (drop q (marksIn t r)) ≡ x
     unfolding partAfter
-    parts-pass q table q-is f = go (isMark (getD r (marksPlace + p) 0)) refl
+    parts-allowed-pass q table q-is f = go (isMark (getD r (marksPlace + p) 0)) refl
       where
         here : p < parts t
         here = omega arith
@@ -196,9 +196,9 @@ module _ (t r : List ℕ) (phase n p : ℕ) (n-is : n ≡ parts t) where
       go true e = omega (arith, rw e at q-is)
       go false e = omega (arith, rw e at q-is, inside t table p (omega arith) .end-after)
 
-  pub parts-end : (x : Bool) → n ≤ p → partsAllowed t phase p (drop p (marksIn t r)) ≡ x → true ≡ x
+  pub parts-allowed-end : (x : Bool) → n ≤ p → partsAllowed t phase p (drop p (marksIn t r)) ≡ x → true ≡ x
   unfolding partsAllowed
-  parts-end x h i = rw (drop-of-length-le (marksIn t r) {i = p} (omega (arith, length-bytes r marksPlace (parts t)))) at i
+  parts-allowed-end x h i = rw (drop-of-length-le (marksIn t r) {i = p} (omega (arith, length-bytes r marksPlace (parts t)))) at i
 
 -- the root
 module _ (t r : List ℕ) (phase : ℕ) (phase-is : phase ≡ phaseOf r) where

@@ -81,13 +81,13 @@ module _ (t est : List ℕ) (v v₁ : ℕ) (v₁-is : v₁ ≡ variables t) (v-i
 
 -- a clock by what its flag says
 module _ (r : List ℕ) (c start : ℕ) (b : Bool) (start-is : start ≡ timeAt r (startsPlace + timeWidth * c)) (b-is : b ≡ not (eqb (getD r (startedPlace + c) 0) 0)) where
-  pub clock-started : (last : ℕ) → b ≡ true → last ≡ lastTime r → leb start last ≡ clockAt r c
+  pub started-clock-allowed : (last : ℕ) → b ≡ true → last ≡ lastTime r → leb start last ≡ clockAt r c
   unfolding clockAt clockAllowed
-  clock-started last h last-is = rw (not-true (eqb (getD r (startedPlace + c) 0) 0) (sym b-is ∙ h), start-is, last-is)
+  started-clock-allowed last h last-is = rw (not-true (eqb (getD r (startedPlace + c) 0) 0) (sym b-is ∙ h), start-is, last-is)
 
-  pub clock-unstarted : b ≡ false → eqb start 0 ≡ clockAt r c
+  pub unstarted-clock-allowed : b ≡ false → eqb start 0 ≡ clockAt r c
   unfolding clockAt clockAllowed
-  clock-unstarted h = rw (not-false (eqb (getD r (startedPlace + c) 0) 0) (sym b-is ∙ h), start-is)
+  unstarted-clock-allowed h = rw (not-false (eqb (getD r (startedPlace + c) 0) 0) (sym b-is ∙ h), start-is)
 
 -- a clock's flag and start time, by its number and by their places
 clock-is : (t r : List ℕ) (c : ℕ) → c < clocks t → clockAt r c ≡ clockAllowed (lastTime r) (getD (startedIn t r) c 0) (getD (startsIn t r) c 0)
@@ -96,12 +96,12 @@ clock-is t r c h =
     rw (getD-bytes r startedPlace (clocks t) c h, getD-tabulate (λ c. timeAt r (startsPlace + timeWidth * c)) 0 (clocks t) c 0 h, zero-add)
 
 -- a table has no more clocks than a record has room for
-pub clock-inside : (t : List ℕ) (c k : ℕ) → isTable t ≡ true → k ≡ clocks t → c < k → c < maxClocks
-clock-inside t c k table k-is h = omega (arith, table-held t table .1 .within .clocks-fit)
+pub clock-below-limit : (t : List ℕ) (c k : ℕ) → isTable t ≡ true → k ≡ clocks t → c < k → c < maxClocks
+clock-below-limit t c k table k-is h = omega (arith, table-held t table .1 .within .clocks-fit)
 
-pub clocks-made : (t r : List ℕ) (k : ℕ) → k ≡ clocks t → allFrom (clockAt r) 0 (k - 0) ≡ clocksAllowed t r
+pub clocks-checked : (t r : List ℕ) (k : ℕ) → k ≡ clocks t → allFrom (clockAt r) 0 (k - 0) ≡ clocksAllowed t r
 unfolding clocksAllowed
-clocks-made t r k k-is = rw (sub-zero, k-is) (each 0 (clocks t) (omega arith))
+clocks-checked t r k k-is = rw (sub-zero, k-is) (each 0 (clocks t) (omega arith))
   where
     each : (c n : ℕ) → c + n ≤ clocks t → allFrom (clockAt r) c n ≡ all (λ c. clockAllowed (lastTime r) (getD (startedIn t r) c 0) (getD (startsIn t r) c 0)) (tabulate (λ c. c) c n)
     each c zero h = refl

@@ -11,9 +11,9 @@ use Rattle.meaning.specs.Record.{recordLength, phaseOf, marksIn, finished, rest
 use Rattle.meaning.specs.Answers.{notATable, recordNotAllowed, runFinished}
 use Rattle.run_allowed.specs.Running.{runTests}
 
-pub too-short : (t r : List ℕ) → length r < recordLength → false ≡ recordAllowed t r
+pub record-too-short : (t r : List ℕ) → length r < recordLength → false ≡ recordAllowed t r
 unfolding recordAllowed
-too-short t r h = rw (lt-leb recordLength (length r) h)
+record-too-short t r h = rw (lt-leb recordLength (length r) h)
 
 module _ (t r : List ℕ) (a : Bool) (a-is : a ≡ isTable t) where
   pub not-table : not a ≡ true → notATable ≡ firstFailing (runTests t r)

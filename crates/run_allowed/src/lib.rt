@@ -22,7 +22,7 @@ ghost use Rattle.meaning.specs.Answers.{answerNumber};
 ghost use Rattle.run_allowed.specs.Running.{runTests};
 
 // Whether the record is one that a run of the table's program may have (10).
-pub fn is_allowed(t: &[u8], r: &[u8]) -> bool
+pub fn record_allowed(t: &[u8], r: &[u8]) -> bool
     requires { ⌜ isTable (now t) ≡ true ⌝ }
     ensures { λ b. ⌜ b ≡ recordAllowed (now (t .entry)) (now (r .entry)) ⌝ }
 {
@@ -37,13 +37,13 @@ pub fn is_allowed(t: &[u8], r: &[u8]) -> bool
 }
 
 // Whether table and record are those of a run that goes on, or why not: 9, 10, 14.
-pub fn examine(t: &[u8], r: &[u8]) -> Answer
+pub fn run_refusal(t: &[u8], r: &[u8]) -> Answer
     ensures { λ a. ⌜ answerNumber a ≡ firstFailing (runTests (now (t .entry)) (now (r .entry))) ⌝ }
 {
     if !is_table(t) {
         return Answer::Refused(Refusal::NotATable);
     }
-    if !is_allowed(t, r) {
+    if !record_allowed(t, r) {
         return Answer::Refused(Refusal::RecordNotAllowed);
     }
     if phase(r) == FINISHED {

@@ -11,8 +11,8 @@ use meaning::kinds::START;
 use meaning::kinds::WAIT;
 use meaning::sizes::FINISHED;
 use meaning::sizes::OFFERED;
-use program_part::held::end_at;
-use program_part::held::parts;
+use program_part::layout::end_at;
+use program_part::layout::parts;
 use program_walk::walker::entry_at;
 use run_record::fields::is_marked;
 use run_record::fields::phase;
@@ -40,7 +40,7 @@ fn any_marked(r: &[u8], from: Number, to: Number) -> bool
     false
 }
 
-// A truth as a number to add.
+// 1 for true, 0 for false.
 fn flag(b: bool) -> Number
     ensures { λ n. ⌜ n ≡ flag b ⌝ }
 {

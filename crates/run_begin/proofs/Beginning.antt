@@ -13,7 +13,7 @@ use Rattle.meaning.specs.Sizes.{timeWidth, maxVariables, maxClocks, maxParts, l
 use Rattle.meaning.specs.Program.{parts, variables, clocks}
 use Rattle.meaning.specs.Table.{isTable}
 use Rattle.meaning.specs.Record.{estimatePlace, marksPlace, recordLength, waiting, padded, recordBytes}
-use Rattle.meaning.specs.Cycle.{fresh, estimateAllowed, beginRefusal, begunInto}
+use Rattle.meaning.specs.Cycle.{initialMarks, estimateAllowed, beginRefusal, begunInto}
 use Rattle.meaning.specs.Operations.{Begun}
 use Rattle.meaning.specs.Answers.{bufferTooShort, notATable, estimateNotAllowed}
 use Rattle.meaning.proofs.Tables.{table-held, root-there}
@@ -55,23 +55,23 @@ module _ (t est : List ℕ) (room : ℕ) (h : beginRefusal t est room ≡ 0) whe
     pub estimate-room : estimatePlace + length est ≤ n
     estimate-room = omega (arith, record-room, estimate-fits t est (begin-tests t est room h .1 .0) .0, table-held t table .1 .within .variables-fit)
 
-    pub fresh-ready : (isTable t ≡ true) × ((0 < parts t) × (marksPlace + parts t ≤ n))
-    fresh-ready = (table, (root-there t table, omega (arith, record-room, parts-fit t table)))
+    pub initial-ready : (isTable t ≡ true) × ((0 < parts t) × (marksPlace + parts t ≤ n))
+    initial-ready = (table, (root-there t table, omega (arith, record-room, parts-fit t table)))
 
 module _ (t est r : List ℕ) where
   -- the bytes: 0 everywhere, then the estimate, then the marks
   module _ (h : beginRefusal t est (length r) ≡ 0) where
-    pub fresh-written : (r₁ r₂ r₃ : List ℕ) → r₁ ≡ sets r 0 (replicate recordLength 0) → r₂ ≡ sets r₁ estimatePlace (bytesAt est 0 (length est)) → r₃ ≡ sets r₂ (marksPlace + 0) (fresh t 0) → r₃ ≡ begunInto t est r
+    pub fresh-written : (r₁ r₂ r₃ : List ℕ) → r₁ ≡ sets r 0 (replicate recordLength 0) → r₂ ≡ sets r₁ estimatePlace (bytesAt est 0 (length est)) → r₃ ≡ sets r₂ (marksPlace + 0) (initialMarks t 0) → r₃ ≡ begunInto t est r
     fresh-written r₁ r₂ r₃ h₁ h₂ h₃ =
-        let whole : length (fresh t 0) ≡ parts t = length-root t (table t est (length r) h) in
-        let new : Shaped t est (replicate (clocks t) 0) (replicate (clocks t) 0) (fresh t 0) = begun-fits t est (length r) h whole .shape in
+        let whole : length (initialMarks t 0) ≡ parts t = length-root t (table t est (length r) h) in
+        let new : Shaped t est (replicate (clocks t) 0) (replicate (clocks t) 0) (initialMarks t 0) = begun-fits t est (length r) h whole .shape in
         let zs : List ℕ = replicate (clocks t) 0 in
         let empty : Shaped t (replicate (variables t) 0) zs zs (replicate (parts t) 0) = omega (arith, new, length-replicate {A = ℕ} (variables t) 0, length-replicate {A = ℕ} (parts t) 0) in
         let stored : Shaped t est zs zs (replicate (parts t) 0) = omega (arith, new, length-replicate {A = ℕ} (parts t) 0) in
         let more : List ℕ = drop recordLength r in
         let a : r₁ ≡ recordBytes waiting 0 (replicate (variables t) 0) zs zs (replicate (parts t) 0) ++ more =
         h₁ ∙ sets-start r (replicate recordLength 0) (record-room t est (length r) h) ∙ rw (zeros (variables t) (clocks t) (parts t) (new .variables-fit) (new .clocks-fit) (new .parts-fit)) in
-        rw (h₃, h₂, a, bytes-all est, estimate-written empty waiting 0 more est (new .estimate-is), marks-written stored waiting 0 more (fresh t 0) whole)
+        rw (h₃, h₂, a, bytes-all est, estimate-written empty waiting 0 more est (new .estimate-is), marks-written stored waiting 0 more (initialMarks t 0) whole)
         (sym (begun-bytes t est r h whole))
 
   -- the answers
@@ -94,9 +94,9 @@ module _ (t est r : List ℕ) where
         unfolding beginRefusal
         begin-short l = refused bufferTooShort (rw (sym b-is ∙ not-false b d, sym c-is ∙ not-false c f, lt-leb recordLength (length r) l)) (λ e. omega arith)
 
-        pub not-refused : recordLength ≤ length r → beginRefusal t est (length r) ≡ 0
+        pub begin-not-refused : recordLength ≤ length r → beginRefusal t est (length r) ≡ 0
         unfolding beginRefusal
-        not-refused l = rw (sym b-is ∙ not-false b d, sym c-is ∙ not-false c f, le-leb recordLength (length r) l)
+        begin-not-refused l = rw (sym b-is ∙ not-false b d, sym c-is ∙ not-false c f, le-leb recordLength (length r) l)
 
         pub begin-done : (r' : List ℕ) → recordLength ≤ length r → r' ≡ begunInto t est r → Begun t est r 0 r'
-        begin-done r' l e = record { answer-is = sym (not-refused l); record-is = e }
+        begin-done r' l e = record { answer-is = sym (begin-not-refused l); record-is = e }

@@ -29,12 +29,12 @@ pub fn begin(t: &[u8], est: &[u8], r: &mut [u8]) -> Answer
     if r.len() < RECORD {
         return Answer::Refused(Refusal::BufferTooShort);
     }
-    write_fresh(t, est, r);
+    write_fresh_record(t, est, r);
     Answer::Done
 }
 
 // Writes the record of a run that begins: what is neither estimate nor mark is 0 in it.
-fn write_fresh(t: &[u8], est: &[u8], r: &mut [u8])
+fn write_fresh_record(t: &[u8], est: &[u8], r: &mut [u8])
     requires { ⌜ beginRefusal (now t) (now est) (length (now r)) ≡ 0 ⌝ }
     ensures { λ _. ⌜ now (r .exit) ≡ begunInto (now (t .entry)) (now (est .entry)) (now (r .entry)) ⌝ }
 {

@@ -15,7 +15,7 @@ use Rattle.base.proofs.Lists.{and-right, length-tabulate, getD-tabulate}
 use Rattle.base.proofs.Stores.{length-bytes, set-before, sets-inside, sets-past, getD-sets-out, getD-sets-in}
 use Rattle.meaning.specs.declared.Entry.{Entry}
 use Rattle.meaning.specs.declared.Form.the-variants.{Table}
-use Rattle.meaning.specs.Sizes.{maxClocks, timeWidth, littleEndian, valueFrom, byteValues}
+use Rattle.meaning.specs.Sizes.{maxClocks, timeWidth, littleEndian, littleEndianValue, byteValues}
 use Rattle.meaning.specs.Kinds.{GOAL, START, WAIT}
 use Rattle.meaning.specs.Program.{parts, variables, clocks, entryAt}
 use Rattle.meaning.specs.Table.{operandOf, isTable}
@@ -225,10 +225,10 @@ stores-own r i zero = refl
 stores-own r i (suc n) = ap (λ a. sets a (suc i) (bytesAt r (suc i) n)) (set-getD r i 0) ∙ stores-own r (suc i) n
 
 module _ (r : List ℕ) (bytes : (j : ℕ) → getD r j 0 < byteValues) where
-  value-own : (i w : ℕ) → littleEndian (suc w) (valueFrom (getD r i 0) (bytesAt r (suc i) w)) ≡ bytesAt r i (suc w)
+  value-own : (i w : ℕ) → littleEndian (suc w) (littleEndianValue (getD r i 0) (bytesAt r (suc i) w)) ≡ bytesAt r i (suc w)
   value-own i zero = let e : getD r i 0 % byteValues ≡ getD r i 0 = omega (arith, bytes i) in rw e
   value-own i (suc w) =
-      let x : ℕ = valueFrom (getD r (suc i) 0) (bytesAt r (suc (suc i)) w) in
+      let x : ℕ = littleEndianValue (getD r (suc i) 0) (bytesAt r (suc (suc i)) w) in
       let low : (getD r i 0 + byteValues * x) % byteValues ≡ getD r i 0 = omega (arith, bytes i) in
       let high : (getD r i 0 + byteValues * x) / byteValues ≡ x = omega (arith, bytes i) in
       rw (low, high) (ap (λ l. getD r i 0 ∷ l) (value-own (suc i) w))

@@ -22,9 +22,9 @@ use Rattle.run_clocks.specs.Starting.{clockStarted, partStarted, partsSt
 
 -- One clock, by what the code reads of it
 module _ (r : List ℕ) (c time : ℕ) (s : Bool) (s-is : s ≡ not (eqb (getD r (startedPlace + c) 0) 0)) where
-  pub clock-kept : s ≡ true → r ≡ clockStarted c time r
+  pub clock-started-before : s ≡ true → r ≡ clockStarted c time r
   unfolding clockStarted
-  clock-kept h = rw (← s-is, h)
+  clock-started-before h = rw (← s-is, h)
 
   pub clock-stored : (a b : List ℕ) (i j : ℕ) → s ≡ false → i ≡ c → a ≡ set r (startedPlace + i) 1 → j ≡ c → b ≡ sets a (startsPlace + timeWidth * j) (littleEndian timeWidth time) → b ≡ clockStarted c time r
   unfolding clockStarted
@@ -53,6 +53,6 @@ parts-step t first r new time p n n-is h new-is i =
     let k : parts t - p ≡ suc (parts t - (p + 1)) = omega arith in
     rw (new-is, add-one p) (rw (k, add-one p) at i)
 
-pub parts-end : (t r w : List ℕ) (time p n : ℕ) → n ≡ parts t → n ≤ p → partsStarted t time p (parts t - p) r ≡ w → r ≡ w
+pub parts-started-end : (t r w : List ℕ) (time p n : ℕ) → n ≡ parts t → n ≤ p → partsStarted t time p (parts t - p) r ≡ w → r ≡ w
 unfolding partsStarted
-parts-end t r w time p n n-is h i = let k : parts t - p ≡ 0 = omega arith in rw k at i
+parts-started-end t r w time p n n-is h i = let k : parts t - p ≡ 0 = omega arith in rw k at i

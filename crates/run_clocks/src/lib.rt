@@ -9,7 +9,7 @@ use meaning::sizes::STARTED;
 use meaning::sizes::STARTED_PLACE;
 use meaning::sizes::STARTS_PLACE;
 use meaning::sizes::TIME;
-use program_part::held::parts;
+use program_part::layout::parts;
 use program_walk::walker::entry_at;
 use run_record::fields::is_marked;
 use run_record::fields::is_started;

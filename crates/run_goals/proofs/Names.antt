@@ -13,7 +13,7 @@ use borrow.Author.Tests.{eqb-true, eqb-false, eq-eqb, ne-eqb}
 use Rattle.base.specs.Lists.{bytesAt}
 use Rattle.meaning.specs.Cycle.{contested, Names}
 use Rattle.meaning.specs.Answers.{answered, noVariable}
-use Rattle.run_goals.specs.Raised.{lowestContested}
+use Rattle.run_goals.specs.Merged.{lowestContested}
 
 -- what is named among the bytes of the variables from v on
 abbrev Named : ℕ → List ℕ → ℕ → Type 0

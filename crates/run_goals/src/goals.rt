@@ -8,9 +8,9 @@ use meaning::Operand;
 use meaning::kinds::GOAL;
 use meaning::sizes::CONTESTED;
 use meaning::sizes::NO_GOAL;
-use program_part::held::parts;
-use program_part::held::variables;
 use program_part::kinds::value;
+use program_part::layout::parts;
+use program_part::layout::variables;
 use program_walk::walker::entry_at;
 use run_record::fields::is_marked;
 ghost use mathlib.Core.Path.{_≡_};
@@ -24,7 +24,7 @@ ghost use Rattle.meaning.specs.Program.{parts, variables};
 ghost use Rattle.meaning.specs.Table.{isTable};
 ghost use Rattle.meaning.specs.Record.{marksPlace, recordLength, marksIn};
 ghost use Rattle.meaning.specs.Cycle.{isKind, leavesFrom, goalBytes};
-ghost use Rattle.run_goals.specs.Raised.{joined, raised, raisedBy, leafAt};
+ghost use Rattle.run_goals.specs.Merged.{mergedByte, goalMerged, goalsMerged, leafAt};
 
 fn is_goal(e: Entry) -> bool
     ensures { λ b. ⌜ b ≡ isKind GOAL e ⌝ }
@@ -32,10 +32,10 @@ fn is_goal(e: Entry) -> bool
     e.kind == GOAL
 }
 
-// What goal byte b becomes when one more GOAL gives value x. A contested byte stays so, since no
+// Goal byte b merged with the value x of one more GOAL. A contested byte stays so, since no
 // value is that large.
-fn joined(b: u8, x: u8) -> u8
-    ensures { λ c. ⌜ c ≡ joined b x ⌝ }
+fn merged_byte(b: u8, x: u8) -> u8
+    ensures { λ c. ⌜ c ≡ mergedByte b x ⌝ }
 {
     if b == NO_GOAL {
         return x;
@@ -46,42 +46,42 @@ fn joined(b: u8, x: u8) -> u8
     CONTESTED
 }
 
-// Adds the value of one GOAL.
-fn raise(g: &mut [u8], o: Operand)
+// Merges the value of one GOAL into the goal bytes.
+fn merge_goal(g: &mut [u8], o: Operand)
     requires { ⌜ value o ≤ maxValue ⌝ }
     requires { ⌜ o .b1 < length (now g) ⌝ }
-    ensures { λ _. ⌜ now (g .exit) ≡ raised (now (g .entry)) o ⌝ }
+    ensures { λ _. ⌜ now (g .exit) ≡ goalMerged (now (g .entry)) o ⌝ }
 {
     let v = wide(o.b1);
     let x = value(o) as u8;
     let b = g[v];
-    g[v] = joined(b, x);
+    g[v] = merged_byte(b, x);
 }
 
-// Adds the value of part p where it is a marked GOAL.
-fn raise_part(t: &[u8], r: &[u8], g: &mut [u8], p: Number)
+// Merges the value of part p where it is a marked GOAL.
+fn merge_part(t: &[u8], r: &[u8], g: &mut [u8], p: Number)
     requires { ⌜ isTable (now t) ≡ true ⌝ }
     requires { ⌜ recordLength ≤ length (now r) ⌝ }
     requires { ⌜ variables (now t) ≤ length (now g) ⌝ }
     requires { ⌜ p < parts (now t) ⌝ }
-    ensures { λ _. ⌜ now (g .exit) ≡ raisedBy (now (g .entry)) (leafAt (now (t .entry)) p (getD (now (r .entry)) (marksPlace + p) 0)) ⌝ }
+    ensures { λ _. ⌜ now (g .exit) ≡ goalsMerged (now (g .entry)) (leafAt (now (t .entry)) p (getD (now (r .entry)) (marksPlace + p) 0)) ⌝ }
 {
     let part = entry_at(t, Form::Table, p);
     if is_marked(r, p) & is_goal(part) {
         let o = part.operand;
-        raise(g, o);
+        merge_goal(g, o);
     }
 }
 
-// Adds the values of all marked GOALs.
-fn raise_all(t: &[u8], r: &[u8], g: &mut [u8])
+// Merges the values of all marked GOALs.
+fn merge_all(t: &[u8], r: &[u8], g: &mut [u8])
     requires { ⌜ isTable (now t) ≡ true ⌝ }
     requires { ⌜ recordLength ≤ length (now r) ⌝ }
     requires { ⌜ variables (now t) ≤ length (now g) ⌝ }
-    ensures { λ _. ⌜ now (g .exit) ≡ raisedBy (now (g .entry)) (leavesFrom (now (t .entry)) 0 (marksIn (now (t .entry)) (now (r .entry)))) ⌝ }
+    ensures { λ _. ⌜ now (g .exit) ≡ goalsMerged (now (g .entry)) (leavesFrom (now (t .entry)) 0 (marksIn (now (t .entry)) (now (r .entry)))) ⌝ }
 {
     for p in 0..parts(t) {
-        raise_part(t, r, g, p);
+        merge_part(t, r, g, p);
     }
 }
 
@@ -93,5 +93,5 @@ pub fn write_goals(t: &[u8], r: &[u8], g: &mut [u8])
     ensures { λ _. ⌜ now (g .exit) ≡ sets (now (g .entry)) 0 (goalBytes (variables (now (t .entry))) (leavesFrom (now (t .entry)) 0 (marksIn (now (t .entry)) (now (r .entry))))) ⌝ }
 {
     fill(g, 0, wide(variables(t)), NO_GOAL);
-    raise_all(t, r, g);
+    merge_all(t, r, g);
 }

@@ -1,4 +1,4 @@
-// What an offer gives: the goal bytes that the marked GOALs join into, and the contested variable that it
+// What an offer gives: the goal bytes, merged from the marked GOALs, and the contested variable that it
 // names.
 pub mod goals;
 pub mod naming;

@@ -1,4 +1,4 @@
--- The fates of a CHOICE and of the parts that are judged by the estimate, by what the code's tests tell.
+-- The transitions of a CHOICE and of the parts that are judged by the estimate, by what the code's tests tell.
 use Prim.Native.Nat.{ℕ, _<_, _≤_}
 use native.Mathlib.Omega.{arith}
 use mathlib.Core.Path.{_≡_, _∙_, ap}
@@ -9,39 +9,39 @@ use lib.ListN.{length, getD}
 use borrow.Author.Tests.{eq-eqb}
 use Rattle.meaning.specs.declared.Operand.{Operand}
 use Rattle.meaning.specs.declared.Entry.{Entry}
-use Rattle.meaning.specs.declared.Fate.{Fate}
-use Rattle.meaning.specs.declared.Fate.the-variants.{First, Second}
+use Rattle.meaning.specs.declared.Transition.{Transition}
+use Rattle.meaning.specs.declared.Transition.the-variants.{First, Second}
 use Rattle.meaning.specs.Kinds.{CHOICE, kindOf, numberOf, value}
-use Rattle.meaning.specs.Program.{variables, clocks, allowedEntry}
+use Rattle.meaning.specs.Program.{variables, clocks, entryAllowed}
 use Rattle.meaning.specs.Record.{lastTime}
 use Rattle.meaning.specs.Conditions.{satisfied}
-use Rattle.meaning.specs.Cycle.{endsIf, fate, situation}
+use Rattle.meaning.specs.Cycle.{endsIf, transition, situation}
 use Rattle.meaning.proofs.Entries.{goal-fits}
 use Rattle.run_record.proofs.Judging.{reached-in}
 
 module _ (t r est : List ℕ) (time : ℕ) (o : Operand) (before after b : Bool) (time-is : time ≡ lastTime r) where
-  pub choice-first : before ≡ false → b ≡ satisfied (situation t r est time) o → b ≡ true → First ≡ fate (situation t r est (lastTime r)) CHOICE o before after
-  unfolding fate
+  pub choice-first : before ≡ false → b ≡ satisfied (situation t r est time) o → b ≡ true → First ≡ transition (situation t r est (lastTime r)) CHOICE o before after
+  unfolding transition
   choice-first none b-is h = rw (none, ← time-is, ← b-is, h)
 
-  pub choice-second : before ≡ false → b ≡ satisfied (situation t r est time) o → b ≡ false → Second ≡ fate (situation t r est (lastTime r)) CHOICE o before after
-  unfolding fate
+  pub choice-second : before ≡ false → b ≡ satisfied (situation t r est time) o → b ≡ false → Second ≡ transition (situation t r est (lastTime r)) CHOICE o before after
+  unfolding transition
   choice-second none b-is h = rw (none, ← time-is, ← b-is, h)
 
-  pub wait-judged : (kind : ℕ) (f : Fate) → kind ≡ 3 → b ≡ satisfied (situation t r est time) o → f ≡ endsIf b → f ≡ fate (situation t r est (lastTime r)) (kindOf kind) o before after
-  unfolding fate kindOf
+  pub wait-judged : (kind : ℕ) (f : Transition) → kind ≡ 3 → b ≡ satisfied (situation t r est time) o → f ≡ endsIf b → f ≡ transition (situation t r est (lastTime r)) (kindOf kind) o before after
+  unfolding transition kindOf
   wait-judged kind f k b-is f-is = rw (k, f-is, ← time-is, ← b-is)
 
-pub goal-judged : (t r est : List ℕ) (o : Operand) (before after b : Bool) (kind : ℕ) (f : Fate) → kind ≡ 1 → b ≡ eqb (getD est (o .b1) 0) (value o) → f ≡ endsIf b → f ≡ fate (situation t r est (lastTime r)) (kindOf kind) o before after
-unfolding fate kindOf
+pub goal-judged : (t r est : List ℕ) (o : Operand) (before after b : Bool) (kind : ℕ) (f : Transition) → kind ≡ 1 → b ≡ eqb (getD est (o .b1) 0) (value o) → f ≡ endsIf b → f ≡ transition (situation t r est (lastTime r)) (kindOf kind) o before after
+unfolding transition kindOf
 goal-judged t r est o before after b kind f k b-is f-is = rw (k, f-is) (ap endsIf (b-is ∙ reached-in t r est (lastTime r) o))
 
 -- the variable of a GOAL of the program stands in the estimate
-pub goal-inside : (t est : List ℕ) (e : Entry) → variables t ≤ length est → allowedEntry (variables t) (clocks t) e ≡ true → e .kind ≡ 1 → e .operand .b1 < length est
+pub goal-inside : (t est : List ℕ) (e : Entry) → variables t ≤ length est → entryAllowed (variables t) (clocks t) e ≡ true → e .kind ≡ 1 → e .operand .b1 < length est
 unfolding numberOf
 goal-inside t est e long allowed is-goal = omega (arith, goal-fits (variables t) (clocks t) e allowed (eq-eqb (e .kind) 1 is-goal) .0)
 
 -- a CHOICE that took a branch before
-pub choice-goes-on : (t r est : List ℕ) (o : Operand) (before after : Bool) (f : Fate) → before ≡ true → f ≡ endsIf (not after) → f ≡ fate (situation t r est (lastTime r)) CHOICE o before after
-unfolding fate
+pub choice-goes-on : (t r est : List ℕ) (o : Operand) (before after : Bool) (f : Transition) → before ≡ true → f ≡ endsIf (not after) → f ≡ transition (situation t r est (lastTime r)) CHOICE o before after
+unfolding transition
 choice-goes-on t r est o before after f h f-is = rw (h, f-is)

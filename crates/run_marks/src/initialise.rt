@@ -13,9 +13,9 @@ use meaning::kinds::START;
 use meaning::kinds::WAIT;
 use meaning::sizes::MARKED;
 use meaning::sizes::UNMARKED;
-use program_part::held::end_at;
-use program_part::held::inside_of;
-use program_part::held::parent_at;
+use program_part::layout::end_at;
+use program_part::layout::inside_of;
+use program_part::layout::parent_at;
 use program_walk::walker::entry_at;
 ghost use mathlib.Core.Path.{_≡_};
 ghost use mathlib.Core.Bool.{true};
@@ -25,8 +25,8 @@ ghost use lib.Seq.{sets};
 ghost use Rattle.meaning.specs.Kinds.{kindOf};
 ghost use Rattle.meaning.specs.Program.{parts};
 ghost use Rattle.meaning.specs.Table.{isTable};
-ghost use Rattle.meaning.specs.Cycle.{beginsIn, begins, fresh};
-ghost use Rattle.run_marks.specs.Initialising.{Turned};
+ghost use Rattle.meaning.specs.Cycle.{beginsIn, begins, initialMarks};
+ghost use Rattle.run_marks.specs.Initialising.{InitialiseStep};
 
 // Whether part p, a child of part q of a kind, is initialised with it.
 fn begins_in(kind: u8, q: Number, p: Number) -> bool
@@ -57,14 +57,14 @@ fn begins(t: &[u8], p: Number) -> bool
     begins_in(parent.kind, q, p)
 }
 
-// Marks part p or does not, and gives the number of parts to be passed over after it: those inside
-// a part that is not initialised are not initialised either.
-fn turn(t: &[u8], m: &mut [u8], from: usize, p: Number, skip: Number) -> Number
+// Stores part p's mark, and gives the number of parts to be skipped after it: what is inside a part that
+// is not initialised is not initialised either.
+fn initialise_step(t: &[u8], m: &mut [u8], from: usize, p: Number, skip: Number) -> Number
     requires { ⌜ isTable (now t) ≡ true ⌝ }
     requires { ⌜ 0 < p ⌝ }
     requires { ⌜ p < parts (now t) ⌝ }
     requires { ⌜ from + parts (now t) ≤ length (now m) ⌝ }
-    ensures { λ n. ⌜ Turned (now (t .entry)) (now (m .entry)) from p skip (now (m .exit)) n ⌝ }
+    ensures { λ n. ⌜ InitialiseStep (now (t .entry)) (now (m .entry)) from p skip (now (m .exit)) n ⌝ }
 {
     let i = from + index(p);
     if 0 < skip {
@@ -84,11 +84,11 @@ pub fn initialise(t: &[u8], m: &mut [u8], from: usize, q: Number)
     requires { ⌜ isTable (now t) ≡ true ⌝ }
     requires { ⌜ q < parts (now t) ⌝ }
     requires { ⌜ from + parts (now t) ≤ length (now m) ⌝ }
-    ensures { λ _. ⌜ now (m .exit) ≡ sets (now (m .entry)) (from + q) (fresh (now (t .entry)) q) ⌝ }
+    ensures { λ _. ⌜ now (m .exit) ≡ sets (now (m .entry)) (from + q) (initialMarks (now (t .entry)) q) ⌝ }
 {
     store(m, from + index(q), MARKED);
     let mut skip: Number = 0;
     for p in q + 1..end_at(t, q) {
-        skip = turn(t, m, from, p, skip);
+        skip = initialise_step(t, m, from, p, skip);
     }
 }

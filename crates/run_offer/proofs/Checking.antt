@@ -17,7 +17,7 @@ use Rattle.meaning.specs.declared.Operand.{Operand}
 use Rattle.meaning.specs.declared.Entry.{Entry}
 use Rattle.meaning.specs.declared.Outcome.{Outcome}
 use Rattle.meaning.specs.declared.Form.the-variants.{Table}
-use Rattle.meaning.specs.Sizes.{maxVariables, maxClocks, timeWidth, valueFrom}
+use Rattle.meaning.specs.Sizes.{maxVariables, maxClocks, timeWidth, littleEndianValue}
 use Rattle.meaning.specs.Kinds.{MAINTAIN, numberOf, conditionAllowed}
 use Rattle.meaning.specs.Program.{parts, variables, clocks, entryAt}
 use Rattle.meaning.specs.Table.{insideOf, isTable}
@@ -27,7 +27,7 @@ use Rattle.meaning.specs.Cycle.{isKind, breaks, checkedFrom, checkedMarks, situ
 use Rattle.meaning.proofs.Entries.{read-allowed, condition-fits}
 use Rattle.meaning.proofs.Tables.{table-held}
 use Rattle.run_record.proofs.Marks.{mark-inside}
-use Rattle.run_offer.specs.Turns.{judging, turned, skipAfter, checkedRest}
+use Rattle.run_offer.specs.CheckSteps.{judging, checkedPart, skipAfter, checkedRest}
 
 -- Records that hold the same between time and marks judge the same
 module _ (t r s : List ℕ) (time : ℕ) (table : isTable t ≡ true) (same : (j : ℕ) → estimatePlace ≤ j → j < marksPlace → getD s j 0 ≡ getD r j 0) where
@@ -35,7 +35,7 @@ module _ (t r s : List ℕ) (time : ℕ) (table : isTable t ≡ true) (same : (j
   fits = let (p, held, e) = table-held t table in (held .within .variables-fit, held .within .clocks-fit)
 
   start-same : (c : ℕ) → c < clocks t → timeAt s (startsPlace + timeWidth * c) ≡ timeAt r (startsPlace + timeWidth * c)
-  start-same c l = ap (λ (bs : List ℕ). valueFrom (getD bs 0 0) (drop 1 bs)) (bytes-same r s (startsPlace + timeWidth * c) timeWidth (λ j a b. same j (omega arith) (omega (arith, fits))))
+  start-same c l = ap (λ (bs : List ℕ). littleEndianValue (getD bs 0 0) (drop 1 bs)) (bytes-same r s (startsPlace + timeWidth * c) timeWidth (λ j a b. same j (omega arith) (omega (arith, fits))))
 
   pub judging-same : judging t s time ≡ judging t r time
   unfolding judging
@@ -46,34 +46,34 @@ module _ (t r s : List ℕ) (time : ℕ) (table : isTable t ≡ true) (same : (j
       rw (e, f, g)
 
 -- One part's turn: by its mark and its kind it is no MAINTAIN that may break, or its condition decides
-module _ (s : Situation) (e : Entry) (x y : Bool) where
-  unbroken : not (x && y) ≡ true → false ≡ (x && (y && violated s (e .operand)))
+module _ (sit : Situation) (e : Entry) (x y : Bool) where
+  unbroken : not (x && y) ≡ true → false ≡ (x && (y && violated sit (e .operand)))
   unbroken h = go x y h
     where
-      go : (a b : Bool) → not (a && b) ≡ true → false ≡ (a && (b && violated s (e .operand)))
+      go : (a b : Bool) → not (a && b) ≡ true → false ≡ (a && (b && violated sit (e .operand)))
       go true true k = cc
       go true false k = refl
       go false b k = refl
 
-  decided : not (x && y) ≡ false → violated s (e .operand) ≡ (x && (y && violated s (e .operand)))
+  decided : not (x && y) ≡ false → violated sit (e .operand) ≡ (x && (y && violated sit (e .operand)))
   decided h = go x y h
     where
-      go : (a b : Bool) → not (a && b) ≡ false → violated s (e .operand) ≡ (a && (b && violated s (e .operand)))
+      go : (a b : Bool) → not (a && b) ≡ false → violated sit (e .operand) ≡ (a && (b && violated sit (e .operand)))
       go true true k = refl
       go true false k = cc
       go false b k = cc
 
-module _ (t : List ℕ) (s : Situation) (p m : ℕ) (e : Entry) (x y : Bool) (e-is : e ≡ entryAt Table t p) (x-is : x ≡ isMark m) (y-is : y ≡ isKind MAINTAIN e) where
-  breaks-is : (x && (y && violated s (e .operand))) ≡ breaks t s p m
-  breaks-is = rw (x-is, y-is) (ap (λ (a : Entry). isMark m && (isKind MAINTAIN a && violated s (a .operand))) e-is)
+module _ (t : List ℕ) (sit : Situation) (p m : ℕ) (e : Entry) (x y : Bool) (e-is : e ≡ entryAt Table t p) (x-is : x ≡ isMark m) (y-is : y ≡ isKind MAINTAIN e) where
+  breaks-is : (x && (y && violated sit (e .operand))) ≡ breaks t sit p m
+  breaks-is = rw (x-is, y-is) (ap (λ (a : Entry). isMark m && (isKind MAINTAIN a && violated sit (a .operand))) e-is)
 
-  pub holds-out : not (x && y) ≡ true → false ≡ breaks t s p m
-  holds-out h = unbroken s e x y h ∙ breaks-is
+  pub holds-out : not (x && y) ≡ true → false ≡ breaks t sit p m
+  holds-out h = unbroken sit e x y h ∙ breaks-is
 
-  pub breaks-if : (c : Outcome) (b : Bool) → not (x && y) ≡ false → c ≡ outcome s (e .operand) → b ≡ isViolated c → b ≡ breaks t s p m
+  pub breaks-if : (c : Outcome) (b : Bool) → not (x && y) ≡ false → c ≡ outcome sit (e .operand) → b ≡ isViolated c → b ≡ breaks t sit p m
   breaks-if c b h c-is b-is =
-      let v : b ≡ violated s (e .operand) = unfold violated in rw (b-is, c-is) in
-      v ∙ (decided s e x y h ∙ breaks-is)
+      let v : b ≡ violated sit (e .operand) = unfold violated in rw (b-is, c-is) in
+      v ∙ (decided sit e x y h ∙ breaks-is)
 
 -- the condition of a MAINTAIN of the table is allowed
 pub maintained : (t : List ℕ) (p : ℕ) (e : Entry) (x y : Bool) → isTable t ≡ true → p < parts t → e ≡ entryAt Table t p → y ≡ isKind MAINTAIN e → not (x && y) ≡ false → conditionAllowed (variables t) (clocks t) (e .operand) ≡ true
@@ -106,8 +106,8 @@ sets-kept : (r xs : List ℕ) (i : ℕ) → sets r i (getD r i 0 ∷ xs) ≡ set
 sets-kept r xs i = ap (λ (m : List ℕ). sets m (suc i) xs) (set-getD r i 0)
 
 -- a turn leaves to be done what the parts after it do
-pub checked-step : (t r s w : List ℕ) (time p skip k n : ℕ) → isTable t ≡ true → n ≡ parts t → p < n → s ≡ turned r p skip → k ≡ skipAfter t (judging t r time) p (getD r (marksPlace + p) 0) skip → checkedRest t time r p skip ≡ w → checkedRest t time s (p + 1) k ≡ w
-unfolding turned skipAfter checkedFrom checkedRest
+pub checked-step : (t r s w : List ℕ) (time p skip k n : ℕ) → isTable t ≡ true → n ≡ parts t → p < n → s ≡ checkedPart r p skip → k ≡ skipAfter t (judging t r time) p (getD r (marksPlace + p) 0) skip → checkedRest t time r p skip ≡ w → checkedRest t time s (p + 1) k ≡ w
+unfolding checkedPart skipAfter checkedFrom checkedRest
 checked-step t r s w time p zero k n table n-is h s-is k-is i =
     let e : marksPlace + suc p ≡ suc (marksPlace + p) = omega arith in
     rw (s-is, k-is, add-one p, e) (sym (sets-kept r (checkedFrom t (judging t r time) (suc p) (bytesAt r (suc (marksPlace + p)) (parts t - suc p)) (cond (breaks t (judging t r time) p (getD r (marksPlace + p) 0)) (insideOf t p) 0)) (marksPlace + p)) ∙ (sym (checked-next t r time p 0 (rw n-is at h)) ∙ i))
@@ -142,12 +142,12 @@ module _ (t r : List ℕ) (time p skip : ℕ) where
   skip-none b z b-is h = rw (z, ← b-is, h)
 
 module _ (r : List ℕ) (p skip : ℕ) where
-  pub mark-dropped : (s : List ℕ) (q : ℕ) → (skip ≡ 0 → ⊥) → q ≡ p → s ≡ set r (marksPlace + q) 0 → s ≡ turned r p skip
-  unfolding turned
+  pub mark-dropped : (s : List ℕ) (q : ℕ) → (skip ≡ 0 → ⊥) → q ≡ p → s ≡ set r (marksPlace + q) 0 → s ≡ checkedPart r p skip
+  unfolding checkedPart
   mark-dropped s q h q-is s-is = let k : skip ≡ suc (skip - 1) = omega arith in rw (k, s-is, q-is)
 
-  pub mark-stays : skip ≡ 0 → r ≡ turned r p skip
-  unfolding turned
+  pub mark-stays : skip ≡ 0 → r ≡ checkedPart r p skip
+  unfolding checkedPart
   mark-stays z = rw z
 
 -- the mark that is dropped stands in the record

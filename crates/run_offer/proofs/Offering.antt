@@ -27,8 +27,8 @@ use Rattle.meaning.proofs.Records.{length-checked, allowed-long}
 use Rattle.meaning.proofs.Entries.{length-goals}
 use Rattle.run_record.proofs.Marks.{marks-inside}
 use Rattle.run_allowed.specs.Running.{runTests}
-use Rattle.run_offer.specs.Turns.{judging}
-use Rattle.run_goals.specs.Raised.{lowestContested}
+use Rattle.run_offer.specs.CheckSteps.{judging}
+use Rattle.run_goals.specs.Merged.{lowestContested}
 use Rattle.run_offer.proofs.Checking.{judging-same}
 use Rattle.run_goals.proofs.Names.{lowest-names}
 

@@ -11,9 +11,9 @@ use meaning::kinds::MAINTAIN;
 use meaning::sizes::ESTIMATE_PLACE;
 use meaning::sizes::MARKS_PLACE;
 use meaning::sizes::UNMARKED;
-use program_part::held::inside_of;
-use program_part::held::parts;
-use program_part::held::variables;
+use program_part::layout::inside_of;
+use program_part::layout::parts;
+use program_part::layout::variables;
 use program_walk::walker::entry_at;
 use run_record::conditions::is_violated;
 use run_record::conditions::outcome;
@@ -29,7 +29,7 @@ ghost use Rattle.meaning.specs.Table.{isTable};
 ghost use Rattle.meaning.specs.Conditions.{outcome};
 ghost use Rattle.meaning.specs.Record.{marksPlace, recordLength};
 ghost use Rattle.meaning.specs.Cycle.{isKind, breaks, checkedMarks};
-ghost use Rattle.run_offer.specs.Turns.{judging, turned, skipAfter};
+ghost use Rattle.run_offer.specs.CheckSteps.{judging, checkedPart, skipAfter};
 
 fn is_maintain(e: Entry) -> bool
     ensures { λ b. ⌜ b ≡ isKind MAINTAIN e ⌝ }
@@ -63,13 +63,13 @@ fn breaks(t: &[u8], r: &[u8], time: u32, p: Number) -> bool
     is_violated(judged(t, r, time, o))
 }
 
-// Part p's turn, with `skip` marks still to be dropped: how many are to be dropped after it.
-fn turn(t: &[u8], r: &mut [u8], time: u32, p: Number, skip: Number) -> Number
+// Checks part p, with `skip` marks still to be dropped: how many are to be dropped after it.
+fn check_part(t: &[u8], r: &mut [u8], time: u32, p: Number, skip: Number) -> Number
     requires { ⌜ isTable (now t) ≡ true ⌝ }
     requires { ⌜ recordLength ≤ length (now r) ⌝ }
     requires { ⌜ p < parts (now t) ⌝ }
     ensures { λ n. ⌜ n ≡ skipAfter (now (t .entry)) (judging (now (t .entry)) (now (r .entry)) time) p (getD (now (r .entry)) (marksPlace + p) 0) skip ⌝ }
-    ensures { λ _. ⌜ now (r .exit) ≡ turned (now (r .entry)) p skip ⌝ }
+    ensures { λ _. ⌜ now (r .exit) ≡ checkedPart (now (r .entry)) p skip ⌝ }
 {
     if skip != 0 {
         store(r, MARKS_PLACE + index(p), UNMARKED);
@@ -89,6 +89,6 @@ pub(crate) fn check_marks(t: &[u8], r: &mut [u8], time: u32)
 {
     let mut skip: Number = 0;
     for p in 0..parts(t) {
-        skip = turn(t, r, time, p, skip);
+        skip = check_part(t, r, time, p, skip);
     }
 }

@@ -11,8 +11,8 @@ use meaning::Refusal;
 use meaning::sizes::OFFERED;
 use meaning::sizes::PHASE_PLACE;
 use meaning::sizes::TIME_PLACE;
-use program_part::held::variables;
-use run_allowed::examine;
+use program_part::layout::variables;
+use run_allowed::run_refusal;
 use run_goals::goals::write_goals;
 use run_goals::naming::lowest_contested;
 use run_record::fields::last_time;
@@ -28,24 +28,24 @@ ghost use Rattle.meaning.specs.Record.{recordLength};
 ghost use Rattle.meaning.specs.Cycle.{offerRefusal, offeredRecord, offeredGoals};
 ghost use Rattle.meaning.specs.Answers.{answered, answerNumber, offerNumber};
 ghost use Rattle.meaning.specs.Operations.{Offered};
-ghost use Rattle.run_goals.specs.Raised.{lowestContested};
+ghost use Rattle.run_goals.specs.Merged.{lowestContested};
 
 // Makes an offer: refusals 9, 10, 14, 11, 12, 8.
 pub fn offer(t: &[u8], r: &mut [u8], time: u32, goals: &mut [u8]) -> OfferAnswer
     ensures { λ a. ⌜ Offered (now (t .entry)) (now (r .entry)) time (now (goals .entry)) (offerNumber a) (now (r .exit)) (now (goals .exit)) ⌝ }
 {
-    let answer = refusal(t, r, time, goals.len());
+    let answer = offer_refusal(t, r, time, goals.len());
     match answer {
         Answer::Refused(why) => OfferAnswer::Refused(why),
-        Answer::Done => make(t, r, time, goals),
+        Answer::Done => make_offer(t, r, time, goals),
     }
 }
 
 // Why an offer is refused. Nothing is written before this is known.
-fn refusal(t: &[u8], r: &[u8], time: u32, room: usize) -> Answer
+fn offer_refusal(t: &[u8], r: &[u8], time: u32, room: usize) -> Answer
     ensures { λ a. ⌜ answerNumber a ≡ offerRefusal (now (t .entry)) (now (r .entry)) time room ⌝ }
 {
-    let answer = examine(t, r);
+    let answer = run_refusal(t, r);
     let Answer::Done = answer else {
         return answer;
     };
@@ -62,7 +62,7 @@ fn refusal(t: &[u8], r: &[u8], time: u32, room: usize) -> Answer
 }
 
 // Makes an offer that nothing refuses.
-fn make(t: &[u8], r: &mut [u8], time: u32, goals: &mut [u8]) -> OfferAnswer
+fn make_offer(t: &[u8], r: &mut [u8], time: u32, goals: &mut [u8]) -> OfferAnswer
     requires { ⌜ offerRefusal (now t) (now r) time (length (now goals)) ≡ 0 ⌝ }
     ensures { λ a. ⌜ offerNumber a ≡ answered + lowestContested 0 (offeredGoals (now (t .entry)) (now (r .entry)) time) ⌝ }
     ensures { λ _. ⌜ now (r .exit) ≡ offeredRecord (now (t .entry)) (now (r .entry)) time ⌝ }

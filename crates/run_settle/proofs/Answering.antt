@@ -71,8 +71,8 @@ module _ (t r est : List ℕ) where
     unfolding earlyRefusal
     passes = none-fails (earlyTests t r est) refl (not-refused a (earlyRefusal t r est) a-is done)
 
-    pub is-table : isTable t ≡ true
-    is-table = passes .0
+    pub settling-is-table : isTable t ≡ true
+    settling-is-table = passes .0
 
     pub is-long : recordLength ≤ length r
     is-long = allowed-long t r (passes .1 .0)
@@ -82,7 +82,7 @@ module _ (t r est : List ℕ) where
 
     -- the marks of all parts have room in m, before and after they are stored
     pub is-room : (room : ℕ) → room ≡ maxParts → parts t ≤ room
-    is-room room e = omega (arith, parts-fit t is-table)
+    is-room room e = omega (arith, parts-fit t settling-is-table)
 
     pub room-still : (m new : List ℕ) → length m ≡ maxParts → length new ≡ length m → parts t ≤ length new
     room-still m new e same = is-room (length new) (same ∙ e)
@@ -91,10 +91,10 @@ module _ (t r est : List ℕ) where
       marks-there : bytesAt new 0 (parts t) ≡ settledMarks t r est
       marks-there =
           let l : length (settledMarks t r est) ≡ parts t = length-settled t (situation t r est (lastTime r)) 0 (marksIn t r) ∙ length-bytes r marksPlace (parts t) in
-          rw new-is (bytes-sets (settledMarks t r est) m 0 (parts t) l (omega (arith, parts-fit t is-table)))
+          rw new-is (bytes-sets (settledMarks t r est) m 0 (parts t) l (omega (arith, parts-fit t settling-is-table)))
 
       root-is : getD (settledMarks t r est) 0 0 ≡ x
-      root-is = sym (x-is ∙ sym (getD-bytes new 0 (parts t) 0 (root-there t is-table)) ∙ ap (λ l. getD l 0 0) marks-there)
+      root-is = sym (x-is ∙ sym (getD-bytes new 0 (parts t) 0 (root-there t settling-is-table)) ∙ ap (λ l. getD l 0 0) marks-there)
 
       late : (b : Bool) → (eqb x 0 || w) ≡ b → settleRefusal t r est ≡ cond b 0 15
       late b e = then-15 ∙ rw (root-is, Bool·not-not (eqb x 0), ← marks-there, ← w-is, e)

@@ -1,4 +1,5 @@
--- What one pass over the marks keeps to see whether something is left that can end or decide: the end of the CHOICE that it met last, as long as it has met no marked part since, and 0 otherwise.
+-- Refusal 15, decided in one pass over the marks. The pass keeps one number, `pending`: the end of the last marked
+-- CHOICE while no marked part has come after it, and 0 otherwise.
 use Prim.Native.Nat.{ℕ, _-_}
 use mathlib.Core.Bool.{Bool, cond, not, _&&_, _||_}
 use mathlib.Core.List.{List}
@@ -16,10 +17,10 @@ use Rattle.meaning.specs.Cycle.{isKind, isLeaf, worksFrom}
 unfoldable pub pendingAfter : List ℕ → ℕ → ℕ → ℕ → ℕ
 pendingAfter t p m pending = cond (isMark m) (cond (isKind CHOICE (entryAt Table t p)) (endAt t p) 0) pending
 
--- a marked part shows that something is left where it is a leaf, or where it is the first beyond a CHOICE with nothing marked inside
+-- part p is marked, and is a leaf or comes after the end of the pending CHOICE, in which then nothing is marked
 unfoldable pub shows : List ℕ → ℕ → ℕ → ℕ → Bool
 shows t p m pending = isMark m && (isLeaf (entryAt Table t p) || (not (eqb pending 0) && leb pending p))
 
--- whether something is left, in that CHOICE or from part p on
+-- whether the pending CHOICE is deciding, or a leaf or a deciding CHOICE is marked from part p on
 unfoldable pub worksWith : List ℕ → ℕ → ℕ → List ℕ → Bool
 worksWith t pending p ms = (not (eqb pending 0) && not (any isMark (take (pending - p) ms))) || worksFrom t p ms

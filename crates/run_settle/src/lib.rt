@@ -17,9 +17,9 @@ use meaning::sizes::MAX_MARKS;
 use meaning::sizes::PHASE_PLACE;
 use meaning::sizes::UNMARKED;
 use meaning::sizes::WAITING;
-use program_part::held::parts;
-use program_part::held::variables;
-use run_allowed::examine;
+use program_part::layout::parts;
+use program_part::layout::variables;
+use run_allowed::run_refusal;
 use run_allowed::values::estimate_allowed;
 use run_clocks::start_clocks;
 use run_marks::settled::settle_marks;
@@ -39,10 +39,10 @@ ghost use Rattle.meaning.specs.Operations.{Settled};
 ghost use Rattle.run_settle.specs.Answering.{earlyRefusal, Judged};
 
 // The refusals that need no marks: 9, 10, 14, 11, 13.
-fn refused(t: &[u8], r: &[u8], est: &[u8]) -> Answer
+fn early_refusal(t: &[u8], r: &[u8], est: &[u8]) -> Answer
     ensures { λ a. ⌜ answerNumber a ≡ earlyRefusal (now (t .entry)) (now (r .entry)) (now (est .entry)) ⌝ }
 {
-    let answer = examine(t, r);
+    let answer = run_refusal(t, r);
     let Answer::Done = answer else {
         return answer;
     };
@@ -60,7 +60,7 @@ fn judge(t: &[u8], r: &[u8], est: &[u8], m: &mut [u8]) -> Answer
     requires { ⌜ length (now m) ≡ maxParts ⌝ }
     ensures { λ a. ⌜ Judged (now (t .entry)) (now (r .entry)) (now (est .entry)) (answerNumber a) (now (m .exit)) ⌝ }
 {
-    let answer = refused(t, r, est);
+    let answer = early_refusal(t, r, est);
     let Answer::Done = answer else {
         return answer;
     };

@@ -1,5 +1,4 @@
-// Whether something is left that can end or decide: what refusal 15 asks of the marks after a
-// settling.
+// Whether a leaf or a deciding CHOICE is marked: what refusal 15 asks of the marks after a settling.
 use meaning::Form;
 use meaning::Number;
 use meaning::index;
@@ -8,8 +7,8 @@ use meaning::kinds::GOAL;
 use meaning::kinds::START;
 use meaning::kinds::WAIT;
 use meaning::sizes::UNMARKED;
-use program_part::held::end_at;
-use program_part::held::parts;
+use program_part::layout::end_at;
+use program_part::layout::parts;
 use program_walk::walker::entry_at;
 ghost use mathlib.Core.Path.{_≡_};
 ghost use mathlib.Core.Bool.{true};
@@ -21,8 +20,8 @@ ghost use Rattle.meaning.specs.Table.{isTable};
 ghost use Rattle.meaning.specs.Cycle.{worksFrom};
 ghost use Rattle.run_settle.specs.Deciding.{pendingAfter, shows};
 
-// Whether part p, where it is marked, shows that something is left: it is a leaf, or it stands beyond
-// the CHOICE that ends at `pending`, which has nothing marked inside then.
+// Whether part p is marked and shows that a leaf or a deciding CHOICE is: p is a leaf itself, or it comes
+// after the end of the CHOICE that ends at `pending`, in which then nothing is marked.
 fn shows(t: &[u8], m: &[u8], p: Number, pending: Number) -> bool
     requires { ⌜ isTable (now t) ≡ true ⌝ }
     requires { ⌜ parts (now t) ≤ length (now m) ⌝ }

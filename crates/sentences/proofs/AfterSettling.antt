@@ -19,37 +19,37 @@ use Rattle.meaning.specs.Program.{parts}
 use Rattle.meaning.specs.Table.{endAt, parentAt, nextAt, insideOf, isTable}
 use Rattle.meaning.specs.Conditions.{Situation}
 use Rattle.meaning.specs.Record.{marksPlace, recordLength, phaseOf, lastTime, marksIn, isMark, restZero, valuesAllowed, clocksAllowed, markedChildren, childrenAllowed, partAllowed, partsAllowed, rootAllowed, recordAllowed}
-use Rattle.meaning.specs.declared.Fate.{Fate}
-use Rattle.meaning.specs.declared.Fate.the-variants.{Stays, Ends, First, Second}
-use Rattle.meaning.specs.Cycle.{fresh, begun, settledFrom, situation, settledMarks}
+use Rattle.meaning.specs.declared.Transition.{Transition}
+use Rattle.meaning.specs.declared.Transition.the-variants.{Stays, Ends, First, Second}
+use Rattle.meaning.specs.Cycle.{initialMarks, initialised, settledFrom, situation, settledMarks}
 use Rattle.meaning.proofs.Decisions.{decides, decides-kind}
-use Rattle.meaning.proofs.Tables.{Later, Inside, inside}
-use Rattle.meaning.proofs.Records.{length-fresh, length-settled}
+use Rattle.meaning.proofs.Tables.{Later, LinksInside, inside}
+use Rattle.meaning.proofs.Records.{length-initial, length-settled}
 use Rattle.meaning.proofs.Lies.{Lies, own-kind, own-inside}
 use Rattle.meaning.proofs.Nesting.{lower, at, root-next, inside-root, nested}
 use Rattle.sentences.proofs.Followers.{Followed, Branches, next-nested, choice-branches}
-use Rattle.sentences.proofs.Settlings.{Marked, later, insideBefore, insideAfter, fateAt, EndsAt, TakesFirst, TakesSecond, marked-length, composite-ends, deciding-stays, unmarked-unjudged, end-no-next, end-next, decides-first, decides-second, stays, kept-own}
+use Rattle.sentences.proofs.Settlings.{Marked, later, insideBefore, insideAfter, transitionAt, EndsAt, TakesFirst, TakesSecond, marked-length, composite-ends, deciding-stays, unmarked-unjudged, end-no-next, end-next, decides-first, decides-second, stays, kept-own}
 
 -- a part that was marked and does not end
-abbrev pub Kept : List ℕ → Situation → List ℕ → ℕ → Type 0
-Kept t s ms n = Marked ms n × (fateAt t s ms n ≡ Ends → ⊥)
+abbrev pub StaysMarked : List ℕ → Situation → List ℕ → ℕ → Type 0
+StaysMarked t sit ms n = Marked ms n × (transitionAt t sit ms n ≡ Ends → ⊥)
 
 -- part q, a deciding CHOICE, takes its child x
-abbrev pub Takes : List ℕ → Situation → List ℕ → ℕ → ℕ → Type 0
-Takes t s ms q x = (TakesFirst t s ms q × (suc q ≡ x)) ⊎ (TakesSecond t s ms q × (endAt t (suc q) ≡ x))
+abbrev pub TakesChild : List ℕ → Situation → List ℕ → ℕ → ℕ → Type 0
+TakesChild t sit ms q x = (TakesFirst t sit ms q × (suc q ≡ x)) ⊎ (TakesSecond t sit ms q × (endAt t (suc q) ≡ x))
 
 -- part q initialises part x: its next where it ends, or the child that it takes
 abbrev pub Initialises : List ℕ → Situation → List ℕ → ℕ → ℕ → Type 0
-Initialises t s ms q x = (EndsAt t s ms q × (nextAt t q ≡ x) × (x ≡ noPart → ⊥)) ⊎ Takes t s ms q x
+Initialises t sit ms q x = (EndsAt t sit ms q × (nextAt t q ≡ x) × (x ≡ noPart → ⊥)) ⊎ TakesChild t sit ms q x
 
 -- part n is marked where the part `at`, itself or around it, is initialised by the part `by`
-pub record Initialised (t : List ℕ) (s : Situation) (ms : List ℕ) (n : ℕ) : Type 0 where
+pub record Initialised (t : List ℕ) (sit : Situation) (ms : List ℕ) (n : ℕ) : Type 0 where
   pub by : ℕ
   pub at : ℕ
-  pub initialises : Initialises t s ms by at
+  pub initialises : Initialises t sit ms by at
   pub from : at ≤ n
   pub before : n < endAt t at
-  pub marked : Marked (fresh t at) (n - at)
+  pub marked : Marked (initialMarks t at) (n - at)
 
 -- something is marked among the first of some marks
 any-at : (l : List ℕ) (k i : ℕ) → i < k → Marked l i → any isMark (take k l) ≡ true
@@ -60,29 +60,29 @@ any-at (x ∷ l) (suc k) (suc i) a m = rw (any-at l k i (omega arith) m) (or-tru
 
 -- marks from part p on in which part x is initialised: of part n
 module _ (t l : List ℕ) (p x n : ℕ) (a : p ≤ n) (b : p ≤ x) (c : x < endAt t x) where
-  begun-in : x ≤ n → n < endAt t x → n - p < length l → getD (begun t p x l) (n - p) 0 ≡ getD (fresh t x) (n - x) 0
+  begun-in : x ≤ n → n < endAt t x → n - p < length l → getD (initialised t p x l) (n - p) 0 ≡ getD (initialMarks t x) (n - x) 0
   begun-in d e f =
       let k : x - p + (n - x) ≡ n - p = omega arith in
-      rw (← k) (getD-sets-in l (x - p) (n - x) (fresh t x) (omega (arith, length-fresh t x)) (omega arith))
+      rw (← k) (getD-sets-in l (x - p) (n - x) (initialMarks t x) (omega (arith, length-initial t x)) (omega arith))
 
-  begun-out : (x ≤ n → n < endAt t x → ⊥) → getD (begun t p x l) (n - p) 0 ≡ getD l (n - p) 0
+  begun-out : (x ≤ n → n < endAt t x → ⊥) → getD (initialised t p x l) (n - p) 0 ≡ getD l (n - p) 0
   begun-out d = go (lower n x)
     where
-      go : (n < x) ⊎ (x ≤ n) → getD (begun t p x l) (n - p) 0 ≡ getD l (n - p) 0
-      go (inl e) = getD-sets-out (fresh t x) l (x - p) (n - p) (inl (omega arith))
+      go : (n < x) ⊎ (x ≤ n) → getD (initialised t p x l) (n - p) 0 ≡ getD l (n - p) 0
+      go (inl e) = getD-sets-out (initialMarks t x) l (x - p) (n - p) (inl (omega arith))
       go (inr e) = beyond (lower n (endAt t x))
         where
-          beyond : (n < endAt t x) ⊎ (endAt t x ≤ n) → getD (begun t p x l) (n - p) 0 ≡ getD l (n - p) 0
+          beyond : (n < endAt t x) ⊎ (endAt t x ≤ n) → getD (initialised t p x l) (n - p) 0 ≡ getD l (n - p) 0
           beyond (inl g) = absurd (d e g)
-          beyond (inr g) = getD-sets-out (fresh t x) l (x - p) (n - p) (inr (omega (arith, length-fresh t x)))
+          beyond (inr g) = getD-sets-out (initialMarks t x) l (x - p) (n - p) (inr (omega (arith, length-initial t x)))
 
-  begun-marked : Marked (begun t p x l) (n - p) → ((x ≤ n) × (n < endAt t x) × Marked (fresh t x) (n - x)) ⊎ Marked l (n - p)
+  begun-marked : Marked (initialised t p x l) (n - p) → ((x ≤ n) × (n < endAt t x) × Marked (initialMarks t x) (n - x)) ⊎ Marked l (n - p)
   begun-marked m = go (lower n x) (lower n (endAt t x))
     where
-      go : (n < x) ⊎ (x ≤ n) → (n < endAt t x) ⊎ (endAt t x ≤ n) → ((x ≤ n) × (n < endAt t x) × Marked (fresh t x) (n - x)) ⊎ Marked l (n - p)
+      go : (n < x) ⊎ (x ≤ n) → (n < endAt t x) ⊎ (endAt t x ≤ n) → ((x ≤ n) × (n < endAt t x) × Marked (initialMarks t x) (n - x)) ⊎ Marked l (n - p)
       go (inl e) g = inr (rw (begun-out (λ u v. omega arith)) at m)
       go (inr e) (inl g) =
-          let f : n - p < length l = rw length-sets at (marked-length (begun t p x l) (n - p) m) in
+          let f : n - p < length l = rw length-sets at (marked-length (initialised t p x l) (n - p) m) in
           inl (e, g, rw (begun-in e g f) at m)
       go (inr e) (inr g) = inr (rw (begun-out (λ u v. omega arith)) at m)
 
@@ -154,9 +154,9 @@ two-inside t ms u p x a b c m e n d =
     taken : (q : ℕ) → u < q → q < endAt t u → Marked ms q → Marked (take (insideOf t u) (drop (suc u) ms)) (q - suc u)
     taken q f g k = rw (getD-take (insideOf t u) (drop (suc u) ms) (q - suc u) 0 (omega arith)) (after-part ms u q f k)
 
-module _ (t : List ℕ) (h : isTable t ≡ true) (s : Situation) (ms : List ℕ) (long : length ms ≡ parts t) where
+module _ (t : List ℕ) (h : isTable t ≡ true) (sit : Situation) (ms : List ℕ) (long : length ms ≡ parts t) where
   -- a part that initialises another was marked
-  by-marked : (q x : ℕ) → Initialises t s ms q x → Marked ms q
+  by-marked : (q x : ℕ) → Initialises t sit ms q x → Marked ms q
   by-marked q x (inl i) = i .0 .0
   by-marked q x (inr (inl i)) = i .0 .0
   by-marked q x (inr (inr i)) = i .0 .0
@@ -165,25 +165,25 @@ module _ (t : List ℕ) (h : isTable t ≡ true) (s : Situation) (ms : List ℕ)
   number-fits p m = rw long at (marked-length ms p m)
 
   -- a part that decides has two children, and nothing is marked inside it before
-  decider : (q : ℕ) → Marked ms q → decides (fateAt t s ms q) ≡ true → Branches t q × (insideBefore t ms q ≡ false)
+  decider : (q : ℕ) → Marked ms q → decides (transitionAt t sit ms q) ≡ true → Branches t q × (insideBefore t ms q ≡ false)
   decider q m e =
-      let d = decides-kind s _ _ _ _ e in
+      let d = decides-kind sit _ _ _ _ e in
       (choice-branches t h q (number-fits q m) (d .0), d .1)
 
   -- the child that it takes stands inside it
-  takes : (q x : ℕ) → Takes t s ms q x → (q < x) × (x < endAt t x) × (endAt t x ≤ endAt t q)
+  takes : (q x : ℕ) → TakesChild t sit ms q x → (q < x) × (x < endAt t x) × (endAt t x ≤ endAt t q)
   takes q x (inl i) = rw (← (i .1)) (omega (arith, decider q (i .0 .0) (ap decides (i .0 .1)) .0))
   takes q x (inr i) = rw (← (i .1)) (omega (arith, decider q (i .0 .0) (ap decides (i .0 .1)) .0))
 
-  takes-empty : (q x : ℕ) → Takes t s ms q x → insideBefore t ms q ≡ false
+  takes-empty : (q x : ℕ) → TakesChild t sit ms q x → insideBefore t ms q ≡ false
   takes-empty q x (inl i) = decider q (i .0 .0) (ap decides (i .0 .1)) .1
   takes-empty q x (inr i) = decider q (i .0 .0) (ap decides (i .0 .1)) .1
 
   -- where a part that is initialised stands: from the part on that initialises it, and up to any end that holds both it and its next
-  reaches : (q x hi : ℕ) → Initialises t s ms q x → endAt t q ≤ hi → (q < nextAt t q → (nextAt t q ≡ noPart → ⊥) → endAt t (nextAt t q) ≤ hi) → (q ≤ x) × (x < endAt t x) × (endAt t x ≤ hi)
+  reaches : (q x hi : ℕ) → Initialises t sit ms q x → endAt t q ≤ hi → (q < nextAt t q → (nextAt t q ≡ noPart → ⊥) → endAt t (nextAt t q) ≤ hi) → (q ≤ x) × (x < endAt t x) × (endAt t x ≤ hi)
   reaches q x hi (inl i) e g = subst (λ y. (q ≤ y) × (y < endAt t y) × (endAt t y ≤ hi)) (i .1) (go (own .next-is))
     where
-      own : Inside t q
+      own : LinksInside t q
       own = inside t h q (number-fits q (i .0 .0))
 
       go : (nextAt t q ≡ noPart) ⊎ ((nextAt t q ≡ q) ⊎ Later t q) → (q ≤ nextAt t q) × (nextAt t q < endAt t (nextAt t q)) × (endAt t (nextAt t q) ≤ hi)
@@ -193,7 +193,7 @@ module _ (t : List ℕ) (h : isTable t ≡ true) (s : Situation) (ms : List ℕ)
   reaches q x hi (inr i) e g = omega (arith, takes q x i)
 
   -- inside the table, and inside every part around
-  reaches-parts : (q x : ℕ) → Initialises t s ms q x → (q ≤ x) × (x < endAt t x) × (endAt t x ≤ parts t)
+  reaches-parts : (q x : ℕ) → Initialises t sit ms q x → (q ≤ x) × (x < endAt t x) × (endAt t x ≤ parts t)
   reaches-parts q x i =
       let l = number-fits q (by-marked q x i) in
       reaches q x (parts t) i (inside t h q l .end-within) (λ a d. later-within a d (inside t h q l .next-is))
@@ -203,49 +203,49 @@ module _ (t : List ℕ) (h : isTable t ≡ true) (s : Situation) (ms : List ℕ)
       later-within a d (inr (inl z)) = absurd (omega arith)
       later-within a d (inr (inr l)) = inside t h (nextAt t q) (l .before-end) .end-within
 
-  reaches-inside : (n q x : ℕ) → Initialises t s ms q x → n < q → q < endAt t n → n < parts t → endAt t x ≤ endAt t n
+  reaches-inside : (n q x : ℕ) → Initialises t sit ms q x → n < q → q < endAt t n → n < parts t → endAt t x ≤ endAt t n
   reaches-inside n q x i a b c =
       reaches q x (endAt t n) i (nested t h n q (a, b)) (λ l d.
       let f = next-nested t h n q (a, b) l d in
       omega (arith, f .next-within, f .parent-end)) .2
 
   -- where a part ends nothing is marked inside it any more
-  ends-empty : (p : Part) {q u x : ℕ} → Lies t p q u x → EndsAt t s ms q → insideAfter t s ms q ≡ false
+  ends-empty : (p : Part) {q u x : ℕ} → Lies t p q u x → EndsAt t sit ms q → insideAfter t sit ms q ≡ false
   ends-empty (goal o) l e = rw (own-inside l)
   ends-empty (start o) l e = rw (own-inside l)
   ends-empty (wait o) l e = rw (own-inside l)
-  ends-empty (seq ps) {q} l e = composite-ends t s ms q (e .0) (inl (own-kind l)) .0 e
-  ends-empty (par ps) {q} l e = composite-ends t s ms q (e .0) (inr (inl (own-kind l))) .0 e
-  ends-empty (maintain o p) {q} l e = composite-ends t s ms q (e .0) (inr (inr (inl (own-kind l)))) .0 e
+  ends-empty (seq ps) {q} l e = composite-ends t sit ms q (e .0) (inl (own-kind l)) .0 e
+  ends-empty (par ps) {q} l e = composite-ends t sit ms q (e .0) (inr (inl (own-kind l))) .0 e
+  ends-empty (maintain o p) {q} l e = composite-ends t sit ms q (e .0) (inr (inr (inl (own-kind l)))) .0 e
   ends-empty (choice o a b) {q} l e = go (insideBefore t ms q) refl
     where
-      go : (c : Bool) → insideBefore t ms q ≡ c → insideAfter t s ms q ≡ false
-      go true k = composite-ends t s ms q (e .0) (inr (inr (inr (inr (own-kind l, k))))) .0 e
-      go false k = absurd (deciding-stays t s ms q (e .0) (own-kind l) k e)
-  ends-empty (repeat p) {q} l e = composite-ends t s ms q (e .0) (inr (inr (inr (inl (own-kind l))))) .0 e
+      go : (c : Bool) → insideBefore t ms q ≡ c → insideAfter t sit ms q ≡ false
+      go true k = composite-ends t sit ms q (e .0) (inr (inr (inr (inr (own-kind l, k))))) .0 e
+      go false k = absurd (deciding-stays t sit ms q (e .0) (own-kind l) k e)
+  ends-empty (repeat p) {q} l e = composite-ends t sit ms q (e .0) (inr (inr (inr (inl (own-kind l))))) .0 e
 
   -- the marks from part p on after the settling, where it initialises a part and where it does not
-  turn-initialises : (p x : ℕ) → Initialises t s ms p x → (m : ℕ) × (isMark m ≡ true → Kept t s ms p) × (settledFrom t s p (drop p ms) ≡ begun t p x (m ∷ later t s ms p))
+  turn-initialises : (p x : ℕ) → Initialises t sit ms p x → (m : ℕ) × (isMark m ≡ true → StaysMarked t sit ms p) × (settledFrom t sit p (drop p ms) ≡ initialised t p x (m ∷ later t sit ms p))
   turn-initialises p x (inl i) =
-      (0, λ z. absurd (false≢true z), subst (λ y. settledFrom t s p (drop p ms) ≡ begun t p y (0 ∷ later t s ms p)) (i .1) (end-next t s ms p (i .0) (λ z. i .2 (sym (i .1) ∙ z))))
+      (0, λ z. absurd (false≢true z), subst (λ y. settledFrom t sit p (drop p ms) ≡ initialised t p y (0 ∷ later t sit ms p)) (i .1) (end-next t sit ms p (i .0) (λ z. i .2 (sym (i .1) ∙ z))))
   turn-initialises p x (inr (inl i)) =
       let one : suc p - p ≡ 1 = omega arith in
-      (1, λ z. (i .0 .0, λ e. false≢true (ap decides (sym e ∙ i .0 .1))), subst (λ y. settledFrom t s p (drop p ms) ≡ begun t p y (1 ∷ later t s ms p)) (i .1) (rw one (decides-first t s ms p (i .0))))
+      (1, λ z. (i .0 .0, λ e. false≢true (ap decides (sym e ∙ i .0 .1))), subst (λ y. settledFrom t sit p (drop p ms) ≡ initialised t p y (1 ∷ later t sit ms p)) (i .1) (rw one (decides-first t sit ms p (i .0))))
   turn-initialises p x (inr (inr i)) =
-      (1, λ z. (i .0 .0, λ e. false≢true (ap decides (sym e ∙ i .0 .1))), subst (λ y. settledFrom t s p (drop p ms) ≡ begun t p y (1 ∷ later t s ms p)) (i .1) (decides-second t s ms p (i .0)))
+      (1, λ z. (i .0 .0, λ e. false≢true (ap decides (sym e ∙ i .0 .1))), subst (λ y. settledFrom t sit p (drop p ms) ≡ initialised t p y (1 ∷ later t sit ms p)) (i .1) (decides-second t sit ms p (i .0)))
 
   abbrev Turn : ℕ → Type 0
-  Turn p = ((x : ℕ) × Initialises t s ms p x) ⊎ ((m : ℕ) × (isMark m ≡ true → Kept t s ms p) × (settledFrom t s p (drop p ms) ≡ m ∷ later t s ms p))
+  Turn p = ((x : ℕ) × Initialises t sit ms p x) ⊎ ((m : ℕ) × (isMark m ≡ true → StaysMarked t sit ms p) × (settledFrom t sit p (drop p ms) ≡ m ∷ later t sit ms p))
 
   turn : (p : ℕ) → p < length ms → Turn p
   turn p l = judged (isMark (getD ms p 0)) refl
     where
-      ended : EndsAt t s ms p → (b : Bool) → eqb (nextAt t p) noPart ≡ b → Turn p
-      ended e true n = inr (0, λ z. absurd (false≢true z), end-no-next t s ms p e (eqb-true (nextAt t p) noPart n))
+      ended : EndsAt t sit ms p → (b : Bool) → eqb (nextAt t p) noPart ≡ b → Turn p
+      ended e true n = inr (0, λ z. absurd (false≢true z), end-no-next t sit ms p e (eqb-true (nextAt t p) noPart n))
       ended e false n = inl (nextAt t p, inl (e, refl, eqb-false (nextAt t p) noPart n))
 
-      met : Marked ms p → (f : Fate) → fateAt t s ms p ≡ f → Turn p
-      met m Stays e = inr (1, λ z. (m, λ d. stays-on (sym e ∙ d)), stays t s ms p (m, e))
+      met : Marked ms p → (f : Transition) → transitionAt t sit ms p ≡ f → Turn p
+      met m Stays e = inr (1, λ z. (m, λ d. stays-on (sym e ∙ d)), stays t sit ms p (m, e))
         where
           stays-on : Stays ≡ Ends → ⊥
           stays-on d = false≢true cc
@@ -254,48 +254,48 @@ module _ (t : List ℕ) (h : isTable t ≡ true) (s : Situation) (ms : List ℕ)
       met m Second e = inl (endAt t (suc p), inr (inr ((m, e), refl)))
 
       judged : (b : Bool) → isMark (getD ms p 0) ≡ b → Turn p
-      judged true m = met m (fateAt t s ms p) refl
-      judged false m = inr (0, λ z. absurd (false≢true z), unmarked-unjudged t s ms p l m)
+      judged true m = met m (transitionAt t sit ms p) refl
+      judged false m = inr (0, λ z. absurd (false≢true z), unmarked-unjudged t sit ms p l m)
 
   -- a part marked once the parts from p on are settled
   abbrev After : ℕ → ℕ → Type 0
-  After p n = Kept t s ms n ⊎ ((i : Initialised t s ms n) × (p ≤ i .by))
+  After p n = StaysMarked t sit ms n ⊎ ((i : Initialised t sit ms n) × (p ≤ i .by))
 
   before-that : (p n : ℕ) → After (suc p) n → After p n
   before-that p n (inl k) = inl k
   before-that p n (inr i) = inr (i .0, omega (arith, i .1))
 
-  after-turn : (p n : ℕ) → p ≤ n → p < length ms → (p < n → Marked (later t s ms p) (n - suc p) → After (suc p) n) → Marked (settledFrom t s p (drop p ms)) (n - p) → After p n
+  after-turn : (p n : ℕ) → p ≤ n → p < length ms → (p < n → Marked (later t sit ms p) (n - suc p) → After (suc p) n) → Marked (settledFrom t sit p (drop p ms)) (n - p) → After p n
   after-turn p n a l ih h = go (turn p l)
     where
-      own : (m : ℕ) → (isMark m ≡ true → Kept t s ms p) → ((p ≡ n) × (isMark m ≡ true)) ⊎ ((p < n) × Marked (later t s ms p) (n - suc p)) → After p n
-      own m k (inl e) = inl (subst (Kept t s ms) (e .0) (k (e .1)))
+      own : (m : ℕ) → (isMark m ≡ true → StaysMarked t sit ms p) → ((p ≡ n) × (isMark m ≡ true)) ⊎ ((p < n) × Marked (later t sit ms p) (n - suc p)) → After p n
+      own m k (inl e) = inl (subst (StaysMarked t sit ms) (e .0) (k (e .1)))
       own m k (inr e) = before-that p n (ih (e .0) (e .1))
 
-      begins : (m x : ℕ) → Initialises t s ms p x → (isMark m ≡ true → Kept t s ms p) → ((x ≤ n) × (n < endAt t x) × Marked (fresh t x) (n - x)) ⊎ Marked (m ∷ later t s ms p) (n - p) → After p n
+      begins : (m x : ℕ) → Initialises t sit ms p x → (isMark m ≡ true → StaysMarked t sit ms p) → ((x ≤ n) × (n < endAt t x) × Marked (initialMarks t x) (n - x)) ⊎ Marked (m ∷ later t sit ms p) (n - p) → After p n
       begins m x i k (inl e) = inr (record { by = p; at = x; initialises = i; from = e .0; before = e .1; marked = e .2 }, omega arith)
-      begins m x i k (inr e) = own m k (cons-marked m (later t s ms p) p n a e)
+      begins m x i k (inr e) = own m k (cons-marked m (later t sit ms p) p n a e)
 
       go : Turn p → After p n
       go (inl i) =
           let r = turn-initialises p (i .0) (i .1) in
           let b = reaches-parts p (i .0) (i .1) in
-          begins (r .0) (i .0) (i .1) (r .1) (begun-marked t (r .0 ∷ later t s ms p) p (i .0) n a (b .0) (b .1) (rw (r .2) at h))
-      go (inr r) = own (r .0) (r .1) (cons-marked (r .0) (later t s ms p) p n a (rw (r .2) at h))
+          begins (r .0) (i .0) (i .1) (r .1) (begun-marked t (r .0 ∷ later t sit ms p) p (i .0) n a (b .0) (b .1) (rw (r .2) at h))
+      go (inr r) = own (r .0) (r .1) (cons-marked (r .0) (later t sit ms p) p n a (rw (r .2) at h))
 
-  after-from : (k p : ℕ) → p + k ≡ length ms → (n : ℕ) → p ≤ n → Marked (settledFrom t s p (drop p ms)) (n - p) → After p n
-  after-from zero p e n a m = absurd (omega (arith, marked-length (settledFrom t s p (drop p ms)) (n - p) m, length-settled t s p (drop p ms), length-drop p ms))
+  after-from : (k p : ℕ) → p + k ≡ length ms → (n : ℕ) → p ≤ n → Marked (settledFrom t sit p (drop p ms)) (n - p) → After p n
+  after-from zero p e n a m = absurd (omega (arith, marked-length (settledFrom t sit p (drop p ms)) (n - p) m, length-settled t sit p (drop p ms), length-drop p ms))
   after-from (suc k) p e n a m = after-turn p n a (omega arith) (λ b. after-from k (suc p) (omega arith) n b) m
 
   -- a part marked after the settling was marked and did not end, or it was initialised
-  pub marked-after : (n : ℕ) → Marked (settledFrom t s 0 ms) n → Kept t s ms n ⊎ Initialised t s ms n
+  pub marked-after : (n : ℕ) → Marked (settledFrom t sit 0 ms) n → StaysMarked t sit ms n ⊎ Initialised t sit ms n
   marked-after n m = ⊎-map (λ k. k) (λ i. i .0) (after-from (length ms) 0 (omega arith) n (omega arith) (rw sub-zero m))
 
   -- "Newly marked parts": a part marked after the settling and not before was initialised
-  pub newly-marked : (n : ℕ) → Marked (settledFrom t s 0 ms) n → isMark (getD ms n 0) ≡ false → Initialised t s ms n
+  pub newly-marked : (n : ℕ) → Marked (settledFrom t sit 0 ms) n → isMark (getD ms n 0) ≡ false → Initialised t sit ms n
   newly-marked n m b = go (marked-after n m)
     where
-      go : Kept t s ms n ⊎ Initialised t s ms n → Initialised t s ms n
+      go : StaysMarked t sit ms n ⊎ Initialised t sit ms n → Initialised t sit ms n
       go (inl k) = absurd (false≢true (sym b ∙ k .0))
       go (inr i) = i
 
@@ -331,11 +331,11 @@ module _ (t : List ℕ) (h : isTable t ≡ true) (s : Situation) (ms : List ℕ)
         start-marked (inr g) c = around-marked (nextAt t p) y c g b d
 
     -- in a part x that holds no mark before, and into which no part between p and x initialises, nothing is marked by the settling of the parts after p
-    none-there : (p x n : ℕ) → ((y : ℕ) → x ≤ y → y < endAt t x → Marked ms y → ⊥) → ((q y : ℕ) → p < q → q < x → Initialises t s ms q y → endAt t y ≤ x) → After (suc p) n → x ≤ n → n < endAt t x → ⊥
+    none-there : (p x n : ℕ) → ((y : ℕ) → x ≤ y → y < endAt t x → Marked ms y → ⊥) → ((q y : ℕ) → p < q → q < x → Initialises t sit ms q y → endAt t y ≤ x) → After (suc p) n → x ≤ n → n < endAt t x → ⊥
     none-there p x n none low (inl k) b c = none n b c (k .0)
     none-there p x n none low (inr k) b c = go (lower (i .by) x)
       where
-        i : Initialised t s ms n
+        i : Initialised t sit ms n
         i = k .0
 
         go : (i .by < x) ⊎ (x ≤ i .by) → ⊥
@@ -343,7 +343,7 @@ module _ (t : List ℕ) (h : isTable t ≡ true) (s : Situation) (ms : List ℕ)
         go (inr g) = none (i .by) g (omega (arith, reaches-parts (i .by) (i .at) (i .initialises), i .from)) (by-marked (i .by) (i .at) (i .initialises))
 
     -- such is a part that part p initialises: its marks go over no other
-    untouched : (p x n : ℕ) → Initialises t s ms p x → p < n → After (suc p) n → Marked (later t s ms p) (n - suc p) → x ≤ n → n < endAt t x → ⊥
+    untouched : (p x n : ℕ) → Initialises t sit ms p x → p < n → After (suc p) n → Marked (later t sit ms p) (n - suc p) → x ≤ n → n < endAt t x → ⊥
     untouched p x n (inl i) a k m b c = next (inside t h p l .next-is)
       where
         l : p < parts t
@@ -359,7 +359,7 @@ module _ (t : List ℕ) (h : isTable t ≡ true) (s : Situation) (ms : List ℕ)
             let y = at t h p l in
             let e : p ≡ x = sym z ∙ i .1 in
             let d : n < endAt t p = rw e c in
-            false≢true (sym (ends-empty (y .part) (y .lies) (i .0)) ∙ any-at (later t s ms p) (insideOf t p) (n - suc p) (omega arith) m)
+            false≢true (sym (ends-empty (y .part) (y .lies) (i .0)) ∙ any-at (later t sit ms p) (insideOf t p) (n - suc p) (omega arith) m)
         next (inr (inr z)) =
             let f = next-nested t h 0 p (inside-root t h p (not-root (eq-zero-or-pos p)) l) (z .after) (λ d. i .2 (sym (i .1) ∙ d)) in
             none-there p x n
@@ -375,54 +375,54 @@ module _ (t : List ℕ) (h : isTable t ≡ true) (s : Situation) (ms : List ℕ)
         k b c
 
     -- a mark set by the settling of the parts after part p stays
-    stays-marked : (p n : ℕ) → p < length ms → p < n → After (suc p) n → Marked (later t s ms p) (n - suc p) → Marked (settledFrom t s p (drop p ms)) (n - p)
+    stays-marked : (p n : ℕ) → p < length ms → p < n → After (suc p) n → Marked (later t sit ms p) (n - suc p) → Marked (settledFrom t sit p (drop p ms)) (n - p)
     stays-marked p n l a k m = go (turn p l)
       where
-        go : Turn p → Marked (settledFrom t s p (drop p ms)) (n - p)
+        go : Turn p → Marked (settledFrom t sit p (drop p ms)) (n - p)
         go (inl i) =
             let r = turn-initialises p (i .0) (i .1) in
             let b = reaches-parts p (i .0) (i .1) in
-            rw (r .2, begun-out t (r .0 ∷ later t s ms p) p (i .0) n (omega arith) (b .0) (b .1) (untouched p (i .0) n (i .1) a k m)) (marked-cons (r .0) (later t s ms p) p n a m)
-        go (inr r) = rw (r .2) (marked-cons (r .0) (later t s ms p) p n a m)
+            rw (r .2, begun-out t (r .0 ∷ later t sit ms p) p (i .0) n (omega arith) (b .0) (b .1) (untouched p (i .0) n (i .1) a k m)) (marked-cons (r .0) (later t sit ms p) p n a m)
+        go (inr r) = rw (r .2) (marked-cons (r .0) (later t sit ms p) p n a m)
 
-    marked-turn : (p n : ℕ) → p < length ms → p ≤ n → (p < n → After (suc p) n → Marked (later t s ms p) (n - suc p)) → After p n → Marked (settledFrom t s p (drop p ms)) (n - p)
+    marked-turn : (p n : ℕ) → p < length ms → p ≤ n → (p < n → After (suc p) n → Marked (later t sit ms p) (n - suc p)) → After p n → Marked (settledFrom t sit p (drop p ms)) (n - p)
     marked-turn p n l a ih (inl k) = go (eq-or-lt-of-le a)
       where
-        go : (p ≡ n) ⊎ (p < n) → Marked (settledFrom t s p (drop p ms)) (n - p)
+        go : (p ≡ n) ⊎ (p < n) → Marked (settledFrom t sit p (drop p ms)) (n - p)
         go (inl e) =
             let z : n - p ≡ 0 = omega arith in
-            let own : Kept t s ms p = rw e k in
-            rw z (kept-own t h s ms p (rw long at l) (own .0) (own .1))
+            let own : StaysMarked t sit ms p = rw e k in
+            rw z (kept-own t h sit ms p (rw long at l) (own .0) (own .1))
         go (inr b) = stays-marked p n l b (inl k) (ih b (inl k))
     marked-turn p n l a ih (inr k) = go (eq-or-lt-of-le (k .1))
       where
-        i : Initialised t s ms n
+        i : Initialised t sit ms n
         i = k .0
 
-        own : Initialises t s ms p (i .at) → Marked (settledFrom t s p (drop p ms)) (n - p)
+        own : Initialises t sit ms p (i .at) → Marked (settledFrom t sit p (drop p ms)) (n - p)
         own j =
             let r = turn-initialises p (i .at) j in
             let b = reaches-parts p (i .at) j in
-            let d : n - p < suc (length (later t s ms p)) = omega (arith, length-settled t s (suc p) (drop (suc p) ms), length-drop (suc p) ms, i .before) in
-            rw (r .2, begun-in t (r .0 ∷ later t s ms p) p (i .at) n a (b .0) (b .1) (i .from) (i .before) d) (i .marked)
+            let d : n - p < suc (length (later t sit ms p)) = omega (arith, length-settled t sit (suc p) (drop (suc p) ms), length-drop (suc p) ms, i .before) in
+            rw (r .2, begun-in t (r .0 ∷ later t sit ms p) p (i .at) n a (b .0) (b .1) (i .from) (i .before) d) (i .marked)
 
-        go : (p ≡ i .by) ⊎ (p < i .by) → Marked (settledFrom t s p (drop p ms)) (n - p)
-        go (inl e) = own (subst (λ q. Initialises t s ms q (i .at)) (sym e) (i .initialises))
+        go : (p ≡ i .by) ⊎ (p < i .by) → Marked (settledFrom t sit p (drop p ms)) (n - p)
+        go (inl e) = own (subst (λ q. Initialises t sit ms q (i .at)) (sym e) (i .initialises))
         go (inr b) =
             let c : p < n = omega (arith, reaches-parts (i .by) (i .at) (i .initialises), i .from) in
             stays-marked p n l c (inr (i, b)) (ih c (inr (i, b)))
 
-    marked-from : (k p : ℕ) → p + k ≡ length ms → (n : ℕ) → p ≤ n → After p n → Marked (settledFrom t s p (drop p ms)) (n - p)
+    marked-from : (k p : ℕ) → p + k ≡ length ms → (n : ℕ) → p ≤ n → After p n → Marked (settledFrom t sit p (drop p ms)) (n - p)
     marked-from zero p e n a (inl k) = absurd (omega (arith, marked-length ms n (k .0)))
     marked-from zero p e n a (inr k) = absurd (omega (arith, marked-length ms (k .0 .by) (by-marked (k .0 .by) (k .0 .at) (k .0 .initialises)), k .1))
     marked-from (suc k) p e n a c = marked-turn p n (omega arith) a (λ b. marked-from k (suc p) (omega arith) n b) c
 
     -- the parts marked after a settling are those that were marked and did not end, and those that were initialised
-    pub settled-marks : (n : ℕ) → Marked (settledFrom t s 0 ms) n ↔ (Kept t s ms n ⊎ Initialised t s ms n)
+    pub settled-marks : (n : ℕ) → Marked (settledFrom t sit 0 ms) n ↔ (StaysMarked t sit ms n ⊎ Initialised t sit ms n)
     settled-marks n = (marked-after n, λ k. rw sub-zero at (marked-from (length ms) 0 (omega arith) n (omega arith) (⊎-map (λ i. i) (λ i. (i, omega arith)) k)))
 
 -- the same of an allowed record of a table
-pub record-settled-marks : (t r est : List ℕ) → isTable t ≡ true → recordAllowed t r ≡ true → (n : ℕ) → Marked (settledMarks t r est) n ↔ (Kept t (situation t r est (lastTime r)) (marksIn t r) n ⊎ Initialised t (situation t r est (lastTime r)) (marksIn t r) n)
+pub record-settled-marks : (t r est : List ℕ) → isTable t ≡ true → recordAllowed t r ≡ true → (n : ℕ) → Marked (settledMarks t r est) n ↔ (StaysMarked t (situation t r est (lastTime r)) (marksIn t r) n ⊎ Initialised t (situation t r est (lastTime r)) (marksIn t r) n)
 unfolding recordAllowed
 record-settled-marks t r est h a =
     let last : Bool = partsAllowed t (phaseOf r) 0 (marksIn t r) in

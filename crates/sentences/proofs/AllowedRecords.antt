@@ -21,7 +21,7 @@ use Rattle.meaning.specs.Record.{estimatePlace, startedPlace, startsPlace, mark
 use Rattle.meaning.specs.Tree.{Part, goal, start, wait, seq, par, maintain, choice, repeat, kind, children, size}
 use Rattle.meaning.proofs.Trees.{All, part-ind, size-law}
 use Rattle.meaning.proofs.Tables.{table-held}
-use Rattle.meaning.proofs.Lies.{Lies, LieIn, own-row, own-kind, inside, first-lies, others-lie, root-lies}
+use Rattle.meaning.proofs.Lies.{Lies, LieIn, own-row, own-kind, children-lie, first-lies, others-lie, root-lies}
 
 -- Tests and the facts that they test
 both : {P Q : Type 0} (a b : Bool) → (a ≡ true) ↔ P → (b ≡ true) ↔ Q → ((a && b) ≡ true) ↔ (P × Q)
@@ -199,11 +199,11 @@ module _ (f : ℕ → Bool) where
           absurd (omega (arith, x .1 .from-first))
 
 -- What the sentences speak of
-abbrev pub Marked : List ℕ → List ℕ → ℕ → Type 0
-Marked t r p = 0 < getD (marksIn t r) p 0
+abbrev pub PartMarked : List ℕ → List ℕ → ℕ → Type 0
+PartMarked t r p = 0 < getD (marksIn t r) p 0
 
-abbrev pub Unmarked : List ℕ → List ℕ → ℕ → Type 0
-Unmarked t r p = getD (marksIn t r) p 0 ≡ 0
+abbrev pub PartUnmarked : List ℕ → List ℕ → ℕ → Type 0
+PartUnmarked t r p = getD (marksIn t r) p 0 ≡ 0
 
 -- part q is a child of part p
 pub record Child (t : List ℕ) (p q : ℕ) : Type 0 where
@@ -213,7 +213,7 @@ pub record Child (t : List ℕ) (p q : ℕ) : Type 0 where
 
 pub record MarkedChild (t r : List ℕ) (p q : ℕ) : Type 0 where
   pub child : Child t p q
-  pub marked : Marked t r q
+  pub marked : PartMarked t r q
 
 -- "at least one", "at most one", "exactly one marked child"
 abbrev pub SomeChild : List ℕ → List ℕ → ℕ → Type 0
@@ -234,7 +234,7 @@ module _ (t r : List ℕ) where
   length-marks = length-bytes r marksPlace (parts t)
 
   -- a part that is marked is a part of the program
-  marked-part : (q : ℕ) → Marked t r q → q < parts t
+  marked-part : (q : ℕ) → PartMarked t r q → q < parts t
   marked-part q h = omega (arith, getD-inside (marksIn t r) q h, length-marks)
 
   module _ (p : ℕ) where
@@ -278,7 +278,7 @@ module _ (t r : List ℕ) where
           record { child = record { after = h .from-first; before-end = omega (arith, length-inner, h .before-last); parent-is = x .1 }; marked = x .0 },
     )
       where
-        test : (is-child q ≡ true) ↔ (Marked t r q × (parentAt t q ≡ p))
+        test : (is-child q ≡ true) ↔ (PartMarked t r q × (parentAt t q ≡ p))
         test = both (isMark (getD (marksIn t r) q 0)) (eqb (parentAt t q) p) (is-mark (getD (marksIn t r) q 0)) (equal p (parentAt t q))
 
     count-is : childCount t r p ≡ count is-child (suc p) (length inner)
@@ -327,17 +327,17 @@ pub record AllowedRecord (t r : List ℕ) : Type 0 where
   pub unstarted-zero : (c : ℕ) → c < clocks t → getD (startedIn t r) c 0 ≡ 0 → getD (startsIn t r) c 0 ≡ 0
   pub started-before : (c : ℕ) → c < clocks t → 0 < getD (startedIn t r) c 0 → getD (startsIn t r) c 0 ≤ lastTime r
   -- "in phase 2 no mark is set, otherwise the root is marked"
-  pub finished-blank : phaseOf r ≡ finished → (p : ℕ) → p < parts t → Unmarked t r p
-  pub root-marked : phaseOf r ≢ finished → Marked t r 0
+  pub finished-blank : phaseOf r ≡ finished → (p : ℕ) → p < parts t → PartUnmarked t r p
+  pub root-marked : phaseOf r ≢ finished → PartMarked t r 0
   -- "nothing is marked inside an unmarked part"
-  pub nothing-inside : (p q : ℕ) → p < parts t → Unmarked t r p → p < q → q < endAt t p → Unmarked t r q
+  pub nothing-inside : (p q : ℕ) → p < parts t → PartUnmarked t r p → p < q → q < endAt t p → PartUnmarked t r q
   -- "a marked SEQ or REPEAT has exactly one marked child, PAR at least one, CHOICE at most one"
-  pub seq-one : (p : ℕ) → p < parts t → Marked t r p → kindAt t p ≡ SEQ → OneChild t r p
-  pub repeat-one : (p : ℕ) → p < parts t → Marked t r p → kindAt t p ≡ REPEAT → OneChild t r p
-  pub par-some : (p : ℕ) → p < parts t → Marked t r p → kindAt t p ≡ PAR → SomeChild t r p
-  pub choice-at-most-one : (p : ℕ) → p < parts t → Marked t r p → kindAt t p ≡ CHOICE → NoTwoChildren t r p
+  pub seq-one : (p : ℕ) → p < parts t → PartMarked t r p → kindAt t p ≡ SEQ → OneChild t r p
+  pub repeat-one : (p : ℕ) → p < parts t → PartMarked t r p → kindAt t p ≡ REPEAT → OneChild t r p
+  pub par-some : (p : ℕ) → p < parts t → PartMarked t r p → kindAt t p ≡ PAR → SomeChild t r p
+  pub choice-at-most-one : (p : ℕ) → p < parts t → PartMarked t r p → kindAt t p ≡ CHOICE → NoTwoChildren t r p
   -- "MAINTAIN's child is marked, or in phase 1 may be unmarked"
-  pub maintain-marked : (p : ℕ) → p < parts t → Marked t r p → kindAt t p ≡ MAINTAIN → phaseOf r ≢ offered → OneChild t r p
+  pub maintain-marked : (p : ℕ) → p < parts t → PartMarked t r p → kindAt t p ≡ MAINTAIN → phaseOf r ≢ offered → OneChild t r p
 
 module _ (t r : List ℕ) where
   -- the parts one by one
@@ -364,20 +364,20 @@ module _ (t r : List ℕ) where
 
   module _ (p : ℕ) where
     -- "nothing is marked inside an unmarked part", of one part
-    blank-inside : (not (any isMark (inner t r p)) ≡ true) ↔ ((q : ℕ) → p < q → q < endAt t p → Unmarked t r q)
+    blank-inside : (not (any isMark (inner t r p)) ≡ true) ↔ ((q : ℕ) → p < q → q < endAt t p → PartUnmarked t r q)
     blank-inside = rw (none-marked (inner t r p)) (Iff·trans (all-facts isZero (λ x. x ≡ 0) (equal 0) (inner t r p) (length (inner t r p)) refl) (to, from))
       where
-        to : ((i : ℕ) → i < length (inner t r p) → getD (inner t r p) i 0 ≡ 0) → (q : ℕ) → p < q → q < endAt t p → Unmarked t r q
+        to : ((i : ℕ) → i < length (inner t r p) → getD (inner t r p) i 0 ≡ 0) → (q : ℕ) → p < q → q < endAt t p → PartUnmarked t r q
         to h q a b = go (eq-zero-or-pos (getD (marksIn t r) q 0))
           where
-            go : Unmarked t r q ⊎ Marked t r q → Unmarked t r q
+            go : PartUnmarked t r q ⊎ PartMarked t r q → PartUnmarked t r q
             go (inl e) = e
             go (inr m) =
                 let l : q - suc p < length (inner t r p) = omega (arith, length-inner t r p, marked-part t r q m) in
                 let e : q ≡ suc p + (q - suc p) = omega arith in
                 rw e (sym (inner-mark t r p (q - suc p) l) ∙ h (q - suc p) l)
 
-        from : ((q : ℕ) → p < q → q < endAt t p → Unmarked t r q) → (i : ℕ) → i < length (inner t r p) → getD (inner t r p) i 0 ≡ 0
+        from : ((q : ℕ) → p < q → q < endAt t p → PartUnmarked t r q) → (i : ℕ) → i < length (inner t r p) → getD (inner t r p) i 0 ≡ 0
         from h i l = inner-mark t r p i l ∙ h (suc p + i) (omega arith) (omega (arith, length-inner t r p))
 
     -- what document 01 asks of the children of a marked part, kind by kind
@@ -405,7 +405,7 @@ module _ (t r : List ℕ) where
     children-right REPEAT = Iff·trans (equal 1 (childCount t r p)) (one-child t r p)
 
     part-right : (partAllowed t (phaseOf r) p (getD (marksIn t r) p 0) (drop (suc p) (marksIn t r)) ≡ true)
-        ↔ ((Marked t r p → Children (kindAt t p)) × (Unmarked t r p → (q : ℕ) → p < q → q < endAt t p → Unmarked t r q))
+        ↔ ((PartMarked t r p → Children (kindAt t p)) × (PartUnmarked t r p → (q : ℕ) → p < q → q < endAt t p → PartUnmarked t r q))
     unfolding inner
     part-right =
         Iff·trans
@@ -413,21 +413,21 @@ module _ (t r : List ℕ) where
         (λ h. (λ m. children-right (kindAt t p) .0 (h .0 m), λ e. blank-inside .0 (h .1 e)), λ h. (λ m. children-right (kindAt t p) .1 (h .0 m), λ e. blank-inside .1 (h .1 e)))
 
   parts-right : (partsAllowed t (phaseOf r) 0 (marksIn t r) ≡ true)
-      ↔ ((p : ℕ) → p < parts t → (Marked t r p → Children p (kindAt t p)) × (Unmarked t r p → (q : ℕ) → p < q → q < endAt t p → Unmarked t r q))
+      ↔ ((p : ℕ) → p < parts t → (PartMarked t r p → Children p (kindAt t p)) × (PartUnmarked t r p → (q : ℕ) → p < q → q < endAt t p → PartUnmarked t r q))
   parts-right =
       Iff·trans (parts-index (phaseOf r) 0 (marksIn t r)) (
         λ h p l. part-right p .0 (rw zero-add at (h p (omega (arith, length-marks t r)))),
         λ h p l. rw zero-add (part-right p .1 (h p (omega (arith, length-marks t r)))),
       )
 
-  root-right : (rootAllowed (phaseOf r) (marksIn t r) ≡ true) ↔ ((phaseOf r ≡ finished → (p : ℕ) → p < parts t → Unmarked t r p) × (phaseOf r ≢ finished → Marked t r 0))
+  root-right : (rootAllowed (phaseOf r) (marksIn t r) ≡ true) ↔ ((phaseOf r ≡ finished → (p : ℕ) → p < parts t → PartUnmarked t r p) × (phaseOf r ≢ finished → PartMarked t r 0))
   unfolding rootAllowed
   root-right =
       Iff·trans
       (by-number (phaseOf r) finished (not (any isMark (marksIn t r))) (isMark (getD (marksIn t r) 0 0)))
       (λ h. (λ e. blank .0 (h .0 e), λ n. is-mark (getD (marksIn t r) 0 0) .0 (h .1 n)), λ h. (λ e. blank .1 (h .0 e), λ n. is-mark (getD (marksIn t r) 0 0) .1 (h .1 n)))
     where
-      blank : (not (any isMark (marksIn t r)) ≡ true) ↔ ((p : ℕ) → p < parts t → Unmarked t r p)
+      blank : (not (any isMark (marksIn t r)) ≡ true) ↔ ((p : ℕ) → p < parts t → PartUnmarked t r p)
       blank = rw (none-marked (marksIn t r)) (all-facts isZero (λ x. x ≡ 0) (equal 0) (marksIn t r) (parts t) (length-marks t r))
 
   clocks-right : (clocksAllowed t r ≡ true)
@@ -469,7 +469,7 @@ module _ (t r : List ℕ) where
       (rest-at r startsPlace (timeWidth * clocks t) (timeWidth * maxClocks) (timeWidth * (maxClocks - clocks t)) (omega arith)) (rest-at r marksPlace (parts t) maxParts (maxParts - parts t) refl)))
 
   -- what the fields of an allowed record ask of the children of a marked part
-  children-by : AllowedRecord t r → (p : ℕ) → p < parts t → Marked t r p → (k : Kind) → kindAt t p ≡ k → Children p k
+  children-by : AllowedRecord t r → (p : ℕ) → p < parts t → PartMarked t r p → (k : Kind) → kindAt t p ≡ k → Children p k
   children-by a p l m UNKNOWN e = tt
   children-by a p l m GOAL e = tt
   children-by a p l m START e = tt
@@ -556,7 +556,7 @@ module _ (t : List ℕ) where
     where
       go : (p : Part) → All AllLying (children p) → (n q x : ℕ) → Lies t p n q x → (i : ℕ) → i < n + size p → (n ≡ i) ⊎ (n < i) → Lying t i
       go p h n q x l i b (inl e) = rw (← e) (p, q, x, l)
-      go p h n q x l i b (inr c) = lying-among (children p) h (kind p) n (suc n) (inside l) i c (omega (arith, size-law p))
+      go p h n q x l i b (inr c) = lying-among (children p) h (kind p) n (suc n) (children-lie l) i c (omega (arith, size-law p))
 
   -- part p is a MAINTAIN: the part after it is its child and has all that stands inside it
   module _ (table : isTable t ≡ true) (p : ℕ) (l : p < parts t) (e : kindAt t p ≡ MAINTAIN) where
@@ -580,18 +580,18 @@ module _ (t : List ℕ) where
         go (repeat y) q x h k = absurd (false≢true cc)
         go (maintain o y) q x h k =
             let own = own-row h in
-            let its = own-row (first-lies (inside h)) in
+            let its = own-row (first-lies (children-lie h)) in
             let n = size-law (maintain o y) in
             let m = size-law y in
             (record { after = omega arith; before-end = omega (arith, own .end-is, n, m); parent-is = its .parent-is }, omega (arith, own .end-is, its .end-is, n))
 
     -- "MAINTAIN's child is marked, or in phase 1 may be unmarked", by the child's number
-    pub maintain-child-marked : (r : List ℕ) → AllowedRecord t r → Marked t r p → phaseOf r ≢ offered → Marked t r (suc p)
+    pub maintain-child-marked : (r : List ℕ) → AllowedRecord t r → PartMarked t r p → phaseOf r ≢ offered → PartMarked t r (suc p)
     maintain-child-marked r a m f =
         let x = a .maintain-marked p l m e f .0 in
         go (x .0) (x .1) (eq-or-lt-of-le (x .1 .child .after)) (eq-zero-or-pos (getD (marksIn t r) (suc p) 0))
       where
-        go : (q : ℕ) → MarkedChild t r p q → (suc p ≡ q) ⊎ (suc p < q) → Unmarked t r (suc p) ⊎ Marked t r (suc p) → Marked t r (suc p)
+        go : (q : ℕ) → MarkedChild t r p q → (suc p ≡ q) ⊎ (suc p < q) → PartUnmarked t r (suc p) ⊎ PartMarked t r (suc p) → PartMarked t r (suc p)
         go q x c (inr k) = k
         go q x (inl c) (inl z) = rw c (x .marked)
         go q x (inr c) (inl z) =

@@ -11,7 +11,7 @@ use Rattle.meaning.specs.Tree.{Part, goal, start, wait, seq, par, maintain, cho
 use Rattle.meaning.specs.Program.{parts}
 use Rattle.meaning.specs.Table.{nextOf, block, endAt, parentAt, nextAt, kindAt, isTable}
 use Rattle.meaning.proofs.Trees.{size-inner}
-use Rattle.meaning.proofs.Lies.{Lies, LieIn, own-row, own-kind, inside, first-lies, others-lie}
+use Rattle.meaning.proofs.Lies.{Lies, LieIn, own-row, own-kind, children-lie, first-lies, others-lie}
 use Rattle.meaning.proofs.Nesting.{Inside, Found, at, found}
 
 -- a next that is neither none nor the part itself is a later child's of a SEQ
@@ -85,8 +85,8 @@ branches (par ps) l e = absurd (omega (arith, ap numberOf e))
 branches (maintain o p) l e = absurd (omega (arith, ap numberOf e))
 branches {t} (choice o p q) {n} l e =
     let own = own-row l in
-    let first = own-row (first-lies (inside l)) in
-    let second = own-row (first-lies (others-lie (inside l))) in
+    let first = own-row (first-lies (children-lie l)) in
+    let second = own-row (first-lies (others-lie (children-lie l))) in
     record {
       first-end = omega (arith, first .end-is, size-inner p);
       second-end = rw (first .end-is) (omega (arith, second .end-is, size-inner q));

@@ -12,9 +12,9 @@ use Rattle.base.specs.Lists.{flag}
 use Rattle.meaning.specs.Program.{parts, clocks}
 use Rattle.meaning.specs.Table.{endAt, parentAt, insideOf, isTable}
 use Rattle.meaning.specs.Record.{recordLength, waiting, isMark, recordBytes}
-use Rattle.meaning.specs.Cycle.{begins, freshFrom, fresh, beginRefusal, begunInto}
+use Rattle.meaning.specs.Cycle.{begins, initialMarksFrom, initialMarks, beginRefusal, begunInto}
 use Rattle.meaning.proofs.Tables.{inside as within}
-use Rattle.meaning.proofs.Records.{Fits, length-record, phase-read, time-read, estimate-read, started-read, starts-read, marks-read, length-fresh, length-root, begin-tests, begun-fits, begun-bytes}
+use Rattle.meaning.proofs.Records.{Fits, length-record, phase-read, time-read, estimate-read, started-read, starts-read, marks-read, length-initial, length-root, begin-tests, begun-fits, begun-bytes}
 use Rattle.sentences.proofs.RecordFields.{Fields}
 use Rattle.meaning.proofs.Nesting.{Inside, parent-inside, inside-parent, Closed, closed-inside, closed-none, closed-rest}
 
@@ -102,8 +102,8 @@ module _ (t : List ℕ) (table : isTable t ≡ true) (q : ℕ) (marked : ℕ →
       go (inr l) = later l
 
   -- so are all parts from n on
-  initialised-from : (k n skip : ℕ) → n + k ≡ endAt t q → Open n skip → ((i : ℕ) → i < k → marked (n + i) ≡ getD (freshFrom t n k skip) i 0) → (p : ℕ) → Inside t q p → n ≤ p → Begun p
-  unfolding freshFrom
+  initialised-from : (k n skip : ℕ) → n + k ≡ endAt t q → Open n skip → ((i : ℕ) → i < k → marked (n + i) ≡ getD (initialMarksFrom t n k skip) i 0) → (p : ℕ) → Inside t q p → n ≤ p → Begun p
+  unfolding initialMarksFrom
   initialised-from zero n skip e o f p i h = absurd (omega arith)
   initialised-from (suc k) n zero e o f p i h =
       let m : marked n ≡ flag (begins t n) = rw add-zero at (f 0 (omega arith)) in
@@ -117,18 +117,18 @@ module _ (t : List ℕ) (table : isTable t ≡ true) (q : ℕ) (marked : ℕ →
       (initialised-from k (suc n) skip (omega arith) (open-skipped n skip o m) (λ j l. rw (suc-add n j, ← add-suc n j) (f (suc j) (omega arith))) p i)
 
 -- "To initialise is to mark the part"
-pub initialised-itself : (t : List ℕ) (q : ℕ) → getD (fresh t q) 0 0 ≡ 1
-unfolding fresh
+pub initialised-itself : (t : List ℕ) (q : ℕ) → getD (initialMarks t q) 0 0 ≡ 1
+unfolding initialMarks
 initialised-itself t q = refl
 
 module _ (t : List ℕ) (table : isTable t ≡ true) (q : ℕ) where
   -- there is a mark for each part from the initialised one to its end
-  pub initialised-length : q < parts t → length (fresh t q) ≡ endAt t q - q
-  initialised-length h = omega (arith, length-fresh t q, within t table q h .end-after)
+  pub initialised-length : q < parts t → length (initialMarks t q) ≡ endAt t q - q
+  initialised-length h = omega (arith, length-initial t q, within t table q h .end-after)
 
   -- the mark of a part, by its number
   abbrev markOf : ℕ → ℕ
-  markOf p = getD (fresh t q) (p - q) 0
+  markOf p = getD (initialMarks t q) (p - q) 0
 
   -- the parts inside the initialised one, before the first of them
   open-self : Open t table q markOf (suc q) 0
@@ -141,12 +141,12 @@ module _ (t : List ℕ) (table : isTable t ≡ true) (q : ℕ) where
 
   -- "and initialise SEQ's first child, all of PAR's, MAINTAIN's and REPEAT's child, and none of CHOICE's":
   -- a part inside is initialised exactly where its parent is and the parent's kind begins it
-  pub initialised-inside : (p : ℕ) → Inside t q p → getD (fresh t q) (p - q) 0 ≡ flag (begins t p && isMark (getD (fresh t q) (parentAt t p - q) 0))
-  unfolding fresh
+  pub initialised-inside : (p : ℕ) → Inside t q p → getD (initialMarks t q) (p - q) 0 ≡ flag (begins t p && isMark (getD (initialMarks t q) (parentAt t p - q) 0))
+  unfolding initialMarks
   initialised-inside p i =
       initialised-from t table q markOf (insideOf t q) (suc q) 0 (omega arith) open-self (λ j l. later j) p i (i .0)
     where
-      later : (j : ℕ) → markOf (suc q + j) ≡ getD (freshFrom t (suc q) (insideOf t q) 0) j 0
+      later : (j : ℕ) → markOf (suc q + j) ≡ getD (initialMarksFrom t (suc q) (insideOf t q) 0) j 0
       later j =
           let e : suc q + j - q ≡ suc j = omega arith in
           rw e
@@ -154,14 +154,14 @@ module _ (t : List ℕ) (table : isTable t ≡ true) (q : ℕ) where
 module _ (t est r : List ℕ) where
   -- "Beginning a run: phase 0, last time 0, no clock started, the estimate stored, the root initialised"; "A longer buffer's further bytes are untouched"
   pub begun-record : beginRefusal t est (length r) ≡ 0
-      → Fields t (begunInto t est r) waiting 0 est (replicate (clocks t) 0) (replicate (clocks t) 0) (fresh t 0) (drop recordLength r)
+      → Fields t (begunInto t est r) waiting 0 est (replicate (clocks t) 0) (replicate (clocks t) 0) (initialMarks t 0) (drop recordLength r)
   begun-record h =
       let table : isTable t ≡ true = begin-tests t est (length r) h .0 in
-      let whole : length (fresh t 0) ≡ parts t = length-root t table in
-      let fits : Fits t 0 est (replicate (clocks t) 0) (replicate (clocks t) 0) (fresh t 0) = begun-fits t est (length r) h whole in
+      let whole : length (initialMarks t 0) ≡ parts t = length-root t table in
+      let fits : Fits t 0 est (replicate (clocks t) 0) (replicate (clocks t) 0) (initialMarks t 0) = begun-fits t est (length r) h whole in
       let more : List ℕ = drop recordLength r in
-      let bytes : List ℕ = recordBytes waiting 0 est (replicate (clocks t) 0) (replicate (clocks t) 0) (fresh t 0) in
-      subst (λ (b : List ℕ). Fields t b waiting 0 est (replicate (clocks t) 0) (replicate (clocks t) 0) (fresh t 0) more) (sym (begun-bytes t est r h whole))
+      let bytes : List ℕ = recordBytes waiting 0 est (replicate (clocks t) 0) (replicate (clocks t) 0) (initialMarks t 0) in
+      subst (λ (b : List ℕ). Fields t b waiting 0 est (replicate (clocks t) 0) (replicate (clocks t) 0) (initialMarks t 0) more) (sym (begun-bytes t est r h whole))
       (record {
         phase-is = phase-read fits waiting more;
         time-is = time-read fits waiting more;

@@ -11,7 +11,7 @@ use lib.Seq.{sets, length-sets}
 use Rattle.base.specs.Lists.{flat, bytesAt}
 use Rattle.base.proofs.Lists.{length-tabulate, getD-tabulate, tabulate-same}
 use Rattle.base.proofs.Stores.{length-bytes, getD-bytes, drop-bytes, bytes-sets-out, bytes-sets, drop-sets-out}
-use Rattle.meaning.specs.Sizes.{maxParts, timeWidth, littleEndian, valueFrom, timeLimit, byteValues}
+use Rattle.meaning.specs.Sizes.{maxParts, timeWidth, littleEndian, littleEndianValue, timeLimit, byteValues}
 use Rattle.meaning.specs.Program.{parts, variables, clocks}
 use Rattle.meaning.specs.Table.{isTable}
 use Rattle.meaning.specs.Record.{timePlace, estimatePlace, startedPlace, startsPlace, marksPlace, recordLength, timeAt, phaseOf, lastTime, estimateIn, startedIn, startsIn, marksIn, offered, waiting, finished}
@@ -119,7 +119,7 @@ module _ (r q : List ℕ) (j n : ℕ) (e : bytesAt r j n ≡ bytesAt q j n) wher
   part-same (suc w) i h = ap₂ _∷_ (byte-same i (omega arith)) (rw add-suc at (part-same w (suc i) (omega arith)))
 
   time-same : (i : ℕ) → i + timeWidth ≤ n → timeAt r (j + i) ≡ timeAt q (j + i)
-  time-same i h = ap₂ valueFrom (byte-same i (omega arith)) (rw add-suc at (part-same (timeWidth - 1) (suc i) (omega arith)))
+  time-same i h = ap₂ littleEndianValue (byte-same i (omega arith)) (rw add-suc at (part-same (timeWidth - 1) (suc i) (omega arith)))
 
 times-same : (t r q : List ℕ) → bytesAt r startsPlace (timeWidth * clocks t) ≡ bytesAt q startsPlace (timeWidth * clocks t) → startsIn t r ≡ startsIn t q
 times-same t r q e =

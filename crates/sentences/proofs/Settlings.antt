@@ -16,9 +16,9 @@ use Rattle.meaning.specs.Program.{parts}
 use Rattle.meaning.specs.Table.{kindAt, operandOf, endAt, nextAt, insideOf, isTable}
 use Rattle.meaning.specs.Conditions.{Situation, reached, satisfied}
 use Rattle.meaning.specs.Record.{isMark}
-use Rattle.meaning.specs.declared.Fate.{Fate}
-use Rattle.meaning.specs.declared.Fate.the-variants.{Stays, Ends, First, Second}
-use Rattle.meaning.specs.Cycle.{endsIf, fate, fresh, applied, settledPart, settledFrom, rootEnded}
+use Rattle.meaning.specs.declared.Transition.{Transition}
+use Rattle.meaning.specs.declared.Transition.the-variants.{Stays, Ends, First, Second}
+use Rattle.meaning.specs.Cycle.{endsIf, transition, initialMarks, applied, settledPart, settledFrom, rootEnded}
 use Rattle.meaning.proofs.Decisions.{decides, decides-kind}
 use Rattle.meaning.proofs.Tables.{root-there}
 use Rattle.meaning.proofs.Nesting.{lower, root-next}
@@ -30,21 +30,21 @@ Marked ms p = isMark (getD ms p 0) ≡ true
 
 -- "after this": the marks of the parts after part p once these are settled
 abbrev pub later : List ℕ → Situation → List ℕ → ℕ → List ℕ
-later t s ms p = settledFrom t s (suc p) (drop (suc p) ms)
+later t sit ms p = settledFrom t sit (suc p) (drop (suc p) ms)
 
 -- something is marked inside part p before the settling, and after that of what is inside it
 abbrev pub insideBefore : List ℕ → List ℕ → ℕ → Bool
 insideBefore t ms p = any isMark (take (insideOf t p) (drop (suc p) ms))
 
 abbrev pub insideAfter : List ℕ → Situation → List ℕ → ℕ → Bool
-insideAfter t s ms p = any isMark (take (insideOf t p) (later t s ms p))
+insideAfter t sit ms p = any isMark (take (insideOf t p) (later t sit ms p))
 
 -- what becomes of part p where it is marked
-abbrev pub fateAt : List ℕ → Situation → List ℕ → ℕ → Fate
-fateAt t s ms p = fate s (kindAt t p) (operandOf t p) (insideBefore t ms p) (insideAfter t s ms p)
+abbrev pub transitionAt : List ℕ → Situation → List ℕ → ℕ → Transition
+transitionAt t sit ms p = transition sit (kindAt t p) (operandOf t p) (insideBefore t ms p) (insideAfter t sit ms p)
 
-abbrev pub Meets : Fate → List ℕ → Situation → List ℕ → ℕ → Type 0
-Meets f t s ms p = Marked ms p × (fateAt t s ms p ≡ f)
+abbrev pub Meets : Transition → List ℕ → Situation → List ℕ → ℕ → Type 0
+Meets f t sit ms p = Marked ms p × (transitionAt t sit ms p ≡ f)
 
 -- a marked composite other than a deciding CHOICE
 abbrev pub Undeciding : List ℕ → List ℕ → ℕ → Type 0
@@ -77,109 +77,109 @@ ends-not : (b : Bool) → (endsIf (not b) ≡ Ends) ↔ (b ≡ false)
 ends-not true = (λ e. cc, λ e. cc)
 ends-not false = (λ e. refl, λ e. refl)
 
-ends-or : (f : Fate) → (f ≡ Ends) ⊎ (f ≡ Ends → ⊥)
+ends-or : (f : Transition) → (f ≡ Ends) ⊎ (f ≡ Ends → ⊥)
 ends-or Stays = inr (λ e. false≢true cc)
 ends-or Ends = inl refl
 ends-or First = inr (λ e. false≢true cc)
 ends-or Second = inr (λ e. false≢true cc)
 
-module _ (t : List ℕ) (s : Situation) (ms : List ℕ) (p : ℕ) where
-  -- a marked part meets a fate where that is its fate
-  meets : {A : Type 0} {f : Fate} → Marked ms p → ((fateAt t s ms p ≡ f) ↔ A) → (Meets f t s ms p ↔ A)
+module _ (t : List ℕ) (sit : Situation) (ms : List ℕ) (p : ℕ) where
+  -- a marked part meets a transition where that is its transition
+  meets : {A : Type 0} {f : Transition} → Marked ms p → ((transitionAt t sit ms p ≡ f) ↔ A) → (Meets f t sit ms p ↔ A)
   meets m h = (λ e. h .0 (e .1), λ a. (m, h .1 a))
 
   module _ (m : Marked ms p) where
     -- "A marked GOAL ends when its variable has its value"
-    pub goal-ends : kindAt t p ≡ GOAL → (EndsAt t s ms p ↔ (reached s (operandOf t p) ≡ true))
-    unfolding fate
-    goal-ends k = meets m (rw k (ends-if (reached s (operandOf t p))))
+    pub goal-ends : kindAt t p ≡ GOAL → (EndsAt t sit ms p ↔ (reached sit (operandOf t p) ≡ true))
+    unfolding transition
+    goal-ends k = meets m (rw k (ends-if (reached sit (operandOf t p))))
 
     -- "a WAIT when satisfied"
-    pub wait-ends : kindAt t p ≡ WAIT → (EndsAt t s ms p ↔ (satisfied s (operandOf t p) ≡ true))
-    unfolding fate
-    wait-ends k = meets m (rw k (ends-if (satisfied s (operandOf t p))))
+    pub wait-ends : kindAt t p ≡ WAIT → (EndsAt t sit ms p ↔ (satisfied sit (operandOf t p) ≡ true))
+    unfolding transition
+    wait-ends k = meets m (rw k (ends-if (satisfied sit (operandOf t p))))
 
     -- "a START always"
-    pub start-ends : kindAt t p ≡ START → EndsAt t s ms p
-    unfolding fate
+    pub start-ends : kindAt t p ≡ START → EndsAt t sit ms p
+    unfolding transition
     start-ends k = (m, rw k)
 
     -- "one deciding before it has its first child initialised if satisfied, else its second", and it does not end
-    pub deciding-decides : kindAt t p ≡ CHOICE → insideBefore t ms p ≡ false → Meets (cond (satisfied s (operandOf t p)) First Second) t s ms p
-    unfolding fate
+    pub deciding-decides : kindAt t p ≡ CHOICE → insideBefore t ms p ≡ false → Meets (cond (satisfied sit (operandOf t p)) First Second) t sit ms p
+    unfolding transition
     deciding-decides k b = (m, rw (k, b))
 
-    pub deciding-stays : kindAt t p ≡ CHOICE → insideBefore t ms p ≡ false → EndsAt t s ms p → ⊥
-    deciding-stays k b e = neither (satisfied s (operandOf t p)) (sym (deciding-decides k b .1) ∙ e .1)
+    pub deciding-stays : kindAt t p ≡ CHOICE → insideBefore t ms p ≡ false → EndsAt t sit ms p → ⊥
+    deciding-stays k b e = neither (satisfied sit (operandOf t p)) (sym (deciding-decides k b .1) ∙ e .1)
       where
         neither : (c : Bool) → cond c First Second ≡ Ends → ⊥
         neither true d = false≢true cc
         neither false d = false≢true cc
 
     -- "Any other marked composite with nothing marked inside after this ends too, a CHOICE whose branch has just ended included"
-    pub composite-ends : Undeciding t ms p → (EndsAt t s ms p ↔ (insideAfter t s ms p ≡ false))
-    unfolding fate
-    composite-ends (inl k) = meets m (rw k (ends-not (insideAfter t s ms p)))
-    composite-ends (inr (inl k)) = meets m (rw k (ends-not (insideAfter t s ms p)))
-    composite-ends (inr (inr (inl k))) = meets m (rw k (ends-not (insideAfter t s ms p)))
-    composite-ends (inr (inr (inr (inl k)))) = meets m (rw k (ends-not (insideAfter t s ms p)))
-    composite-ends (inr (inr (inr (inr k)))) = meets m (rw (k .0, k .1) (ends-not (insideAfter t s ms p)))
+    pub composite-ends : Undeciding t ms p → (EndsAt t sit ms p ↔ (insideAfter t sit ms p ≡ false))
+    unfolding transition
+    composite-ends (inl k) = meets m (rw k (ends-not (insideAfter t sit ms p)))
+    composite-ends (inr (inl k)) = meets m (rw k (ends-not (insideAfter t sit ms p)))
+    composite-ends (inr (inr (inl k))) = meets m (rw k (ends-not (insideAfter t sit ms p)))
+    composite-ends (inr (inr (inr (inl k)))) = meets m (rw k (ends-not (insideAfter t sit ms p)))
+    composite-ends (inr (inr (inr (inr k)))) = meets m (rw (k .0, k .1) (ends-not (insideAfter t sit ms p)))
 
   -- the marks from part p on after a settling, from those after it
-  pub settled-at : p < length ms → settledFrom t s p (drop p ms) ≡ settledPart t s p (getD ms p 0) (drop (suc p) ms) (later t s ms p)
+  pub settled-at : p < length ms → settledFrom t sit p (drop p ms) ≡ settledPart t sit p (getD ms p 0) (drop (suc p) ms) (later t sit ms p)
   unfolding settledFrom
   settled-at l = rw (drop-cons ms p 0 l)
 
-  -- a marked part, by its fate
-  settled-by : (f : Fate) → Meets f t s ms p → settledFrom t s p (drop p ms) ≡ applied t p f (later t s ms p)
+  -- a marked part, by its transition
+  settled-by : (f : Transition) → Meets f t sit ms p → settledFrom t sit p (drop p ms) ≡ applied t p f (later t sit ms p)
   settled-by f m = settled-at (marked-length ms p (m .0)) ∙ rw (m .0, m .1)
 
   -- a part that is not marked before is not judged: "Newly marked parts are not judged, do not end"
-  pub unmarked-unjudged : p < length ms → isMark (getD ms p 0) ≡ false → settledFrom t s p (drop p ms) ≡ 0 ∷ later t s ms p
+  pub unmarked-unjudged : p < length ms → isMark (getD ms p 0) ≡ false → settledFrom t sit p (drop p ms) ≡ 0 ∷ later t sit ms p
   unmarked-unjudged l m = settled-at l ∙ rw m
 
   -- "A part that ends loses its mark and then initialises its next, if it has one"
-  pub end-no-next : EndsAt t s ms p → nextAt t p ≡ noPart → settledFrom t s p (drop p ms) ≡ 0 ∷ later t s ms p
+  pub end-no-next : EndsAt t sit ms p → nextAt t p ≡ noPart → settledFrom t sit p (drop p ms) ≡ 0 ∷ later t sit ms p
   unfolding applied
   end-no-next e n = settled-by Ends e ∙ rw (eq-eqb (nextAt t p) noPart n)
 
-  pub end-next : EndsAt t s ms p → (nextAt t p ≡ noPart → ⊥) → settledFrom t s p (drop p ms) ≡ sets (0 ∷ later t s ms p) (nextAt t p - p) (fresh t (nextAt t p))
+  pub end-next : EndsAt t sit ms p → (nextAt t p ≡ noPart → ⊥) → settledFrom t sit p (drop p ms) ≡ sets (0 ∷ later t sit ms p) (nextAt t p - p) (initialMarks t (nextAt t p))
   unfolding applied
   end-next e n = settled-by Ends e ∙ rw (ne-eqb (nextAt t p) noPart n)
 
   -- a deciding CHOICE "has its first child initialised if satisfied, else its second"
-  pub decides-first : TakesFirst t s ms p → settledFrom t s p (drop p ms) ≡ sets (1 ∷ later t s ms p) 1 (fresh t (suc p))
+  pub decides-first : TakesFirst t sit ms p → settledFrom t sit p (drop p ms) ≡ sets (1 ∷ later t sit ms p) 1 (initialMarks t (suc p))
   unfolding applied
   decides-first e =
       let one : suc p - p ≡ 1 = omega arith in
       rw one at (settled-by First e)
 
-  pub decides-second : TakesSecond t s ms p → settledFrom t s p (drop p ms) ≡ sets (1 ∷ later t s ms p) (endAt t (suc p) - p) (fresh t (endAt t (suc p)))
+  pub decides-second : TakesSecond t sit ms p → settledFrom t sit p (drop p ms) ≡ sets (1 ∷ later t sit ms p) (endAt t (suc p) - p) (initialMarks t (endAt t (suc p)))
   unfolding applied
   decides-second e = settled-by Second e
 
   -- a part that neither ends nor decides keeps its mark
-  pub stays : Meets Stays t s ms p → settledFrom t s p (drop p ms) ≡ 1 ∷ later t s ms p
+  pub stays : Meets Stays t sit ms p → settledFrom t sit p (drop p ms) ≡ 1 ∷ later t sit ms p
   unfolding applied
   stays e = settled-by Stays e
 
-module _ (t : List ℕ) (h : isTable t ≡ true) (s : Situation) (ms : List ℕ) where
+module _ (t : List ℕ) (h : isTable t ≡ true) (sit : Situation) (ms : List ℕ) where
   -- a part that does not end keeps its mark
-  pub kept-own : (p : ℕ) → p < parts t → Marked ms p → (fateAt t s ms p ≡ Ends → ⊥) → Marked (settledFrom t s p (drop p ms)) 0
-  kept-own p l m d = go (fateAt t s ms p) refl
+  pub kept-own : (p : ℕ) → p < parts t → Marked ms p → (transitionAt t sit ms p ≡ Ends → ⊥) → Marked (settledFrom t sit p (drop p ms)) 0
+  kept-own p l m d = go (transitionAt t sit ms p) refl
     where
-      go : (f : Fate) → fateAt t s ms p ≡ f → Marked (settledFrom t s p (drop p ms)) 0
-      go Stays e = rw (stays t s ms p (m, e))
+      go : (f : Transition) → transitionAt t sit ms p ≡ f → Marked (settledFrom t sit p (drop p ms)) 0
+      go Stays e = rw (stays t sit ms p (m, e))
       go Ends e = absurd (d e)
-      go First e = rw (decides-first t s ms p (m, e), getD-sets-out (fresh t (suc p)) (1 ∷ later t s ms p) 1 0 (inl (omega arith)))
+      go First e = rw (decides-first t sit ms p (m, e), getD-sets-out (initialMarks t (suc p)) (1 ∷ later t sit ms p) 1 0 (inl (omega arith)))
       go Second e =
-          let b = choice-branches t h p l (decides-kind s (kindAt t p) (operandOf t p) (insideBefore t ms p) (insideAfter t s ms p) (ap decides e) .0) in
-          rw (decides-second t s ms p (m, e), getD-sets-out (fresh t (endAt t (suc p))) (1 ∷ later t s ms p) (endAt t (suc p) - p) 0 (inl (omega (arith, b .first-end))))
+          let b = choice-branches t h p l (decides-kind sit (kindAt t p) (operandOf t p) (insideBefore t ms p) (insideAfter t sit ms p) (ap decides e) .0) in
+          rw (decides-second t sit ms p (m, e), getD-sets-out (initialMarks t (endAt t (suc p))) (1 ∷ later t sit ms p) (endAt t (suc p) - p) 0 (inl (omega (arith, b .first-end))))
 
   -- "If the root ends, phase is 2": the root is found ended exactly where it ends
-  pub root-ends : Marked ms 0 → ((rootEnded (settledFrom t s 0 ms) ≡ true) ↔ EndsAt t s ms 0)
-  root-ends m = (λ r. go r (ends-or (fateAt t s ms 0)), λ e. rw (end-no-next t s ms 0 e (root-next t h)))
+  pub root-ends : Marked ms 0 → ((rootEnded (settledFrom t sit 0 ms) ≡ true) ↔ EndsAt t sit ms 0)
+  root-ends m = (λ r. go r (ends-or (transitionAt t sit ms 0)), λ e. rw (end-no-next t sit ms 0 e (root-next t h)))
     where
-      go : rootEnded (settledFrom t s 0 ms) ≡ true → (fateAt t s ms 0 ≡ Ends) ⊎ (fateAt t s ms 0 ≡ Ends → ⊥) → EndsAt t s ms 0
+      go : rootEnded (settledFrom t sit 0 ms) ≡ true → (transitionAt t sit ms 0 ≡ Ends) ⊎ (transitionAt t sit ms 0 ≡ Ends → ⊥) → EndsAt t sit ms 0
       go r (inl e) = (m, e)
       go r (inr d) = absurd (false≢true (rw (kept-own 0 (root-there t h) m d) at r))

@@ -9,15 +9,15 @@ use mathlib.Core.List.{List, [], _∷_}
 use lib.ListN.{replicate}
 use Rattle.meaning.specs.declared.Operand.{Operand}
 use Rattle.meaning.specs.declared.Form.the-variants.{File}
-use Rattle.meaning.specs.declared.Fate.the-variants.{Stays, Ends}
+use Rattle.meaning.specs.declared.Transition.the-variants.{Stays, Ends}
 use Rattle.meaning.specs.declared.Outcome.the-variants.{Satisfied, Violated}
 use Rattle.meaning.specs.Kinds.{SEQ, MAINTAIN, kindOf, numberOf, known, arity, testOf, testAllowed, conditionAllowed, goalAllowed, startAllowed, countAllowed, emptyAllowed, operandAllowed}
 use Rattle.meaning.specs.Tree.{Part, fold, size, depth, goal, start, wait, seq, maintain, one, more}
-use Rattle.meaning.specs.Program.{sizesAllowed, entries, preorder, knownEntry, allowedEntry, arityOf, make, place, trees, treeOf, programRefusal}
+use Rattle.meaning.specs.Program.{sizesAllowed, entries, preorder, entryKnown, entryAllowed, arityOf, makePart, takeChildren, trees, treeOf, programRefusal}
 use Rattle.meaning.specs.Table.{operandOf, nextAt, nextOf, block, tableOf, compiled, fileIn, isTable}
 use Rattle.meaning.specs.Conditions.{Situation, outcome, reached, satisfied, violated}
 use Rattle.meaning.specs.Record.{recordLength, phaseOf, lastTime, estimateIn, startedIn, startsIn, marksIn, restZero, valuesAllowed, clockAllowed, clocksAllowed, markedChildren, childrenAllowed, partsAllowed, rootAllowed, recordBytes, recordAllowed}
-use Rattle.meaning.specs.Cycle.{beginsIn, freshFrom, fresh, breaks, checkedFrom, leavesFrom, valuesFor, goalBytes, fate, applied, settledFrom, situation, estimateAllowed, freshRecord, beginRefusal, begunInto, offerRefusal, offeredInto, goalsInto, worksFrom, settleRefusal, settledInto}
+use Rattle.meaning.specs.Cycle.{beginsIn, initialMarksFrom, initialMarks, breaks, checkedFrom, leavesFrom, valuesFor, goalBytes, transition, applied, settledFrom, situation, estimateAllowed, freshRecord, beginRefusal, begunInto, offerRefusal, offeredInto, goalsInto, worksFrom, settleRefusal, settledInto}
 use Rattle.agreement.specs.Unfolding.{Rest, broken, holding, afresh, check, working, settle}
 
 -- SEQ(MAINTAIN(variable 1 equals 0, SEQ(START 0, WAIT clock 0 at least 10, GOAL 0=2)), GOAL 0=1)
@@ -48,7 +48,7 @@ table =
     ∷ []
 
 pub table-is : compiled File file ≡ table
-unfolding kindOf numberOf known arity fold depth size sizesAllowed entries preorder arityOf make place trees treeOf nextOf block tableOf compiled
+unfolding kindOf numberOf known arity fold depth size sizesAllowed entries preorder arityOf makePart takeChildren trees treeOf nextOf block tableOf compiled
 table-is = refl
 
 -- The record after a beginning, and after cycles at 100 and 109; in the second the frame tilts: the settling's estimate has 1 for variable 1
@@ -123,23 +123,23 @@ pub from-2 : settledFrom table settling 2 (0 ∷ 0 ∷ 0 ∷ 0 ∷ 0 ∷ []) ≡
 unfolding settledFrom
 from-2 = refl
 
-pub fate-1 : fate settling MAINTAIN (operandOf table 1) false false ≡ Ends
-unfolding fate
+pub fate-1 : transition settling MAINTAIN (operandOf table 1) false false ≡ Ends
+unfolding transition
 fate-1 = refl
 
 pub next-1 : nextAt table 1 ≡ 6
 next-1 = refl
 
 pub from-1 : settledFrom table settling 1 (1 ∷ 0 ∷ 0 ∷ 0 ∷ 0 ∷ 0 ∷ []) ≡ 0 ∷ 0 ∷ 0 ∷ 0 ∷ 0 ∷ 1 ∷ []
-unfolding kindOf numberOf beginsIn freshFrom fresh fate applied settledFrom
+unfolding kindOf numberOf beginsIn initialMarksFrom initialMarks transition applied settledFrom
 from-1 = refl
 
-pub fate-0 : fate settling SEQ (operandOf table 0) true true ≡ Stays
-unfolding fate
+pub fate-0 : transition settling SEQ (operandOf table 0) true true ≡ Stays
+unfolding transition
 fate-0 = refl
 
 pub from-0 : settledFrom table settling 0 (1 ∷ 1 ∷ 0 ∷ 0 ∷ 0 ∷ 0 ∷ 0 ∷ []) ≡ 1 ∷ 0 ∷ 0 ∷ 0 ∷ 0 ∷ 0 ∷ 1 ∷ []
-unfolding kindOf numberOf beginsIn freshFrom fresh fate applied settledFrom
+unfolding kindOf numberOf beginsIn initialMarksFrom initialMarks transition applied settledFrom
 from-0 = refl
 
 -- the run up to the doubtful cycle and over it
@@ -152,7 +152,7 @@ pub record Worked : Type 0 where
   pub after-says : Says after (1 ∷ 0 ∷ 0 ∷ 0 ∷ 0 ∷ 0 ∷ 1 ∷ []) 0 110 level (1 ∷ []) (100 ∷ [])
 
 pub worked : Worked
-unfolding kindOf numberOf known arity testOf testAllowed conditionAllowed goalAllowed startAllowed countAllowed emptyAllowed operandAllowed fold depth size sizesAllowed entries preorder knownEntry allowedEntry arityOf make place trees treeOf programRefusal nextOf block tableOf compiled fileIn isTable outcome reached satisfied violated restZero valuesAllowed clockAllowed clocksAllowed markedChildren childrenAllowed partsAllowed rootAllowed recordBytes recordAllowed beginsIn freshFrom fresh checkedFrom leavesFrom valuesFor goalBytes fate applied settledFrom estimateAllowed freshRecord beginRefusal begunInto offerRefusal offeredInto goalsInto worksFrom settleRefusal settledInto
+unfolding kindOf numberOf known arity testOf testAllowed conditionAllowed goalAllowed startAllowed countAllowed emptyAllowed operandAllowed fold depth size sizesAllowed entries preorder entryKnown entryAllowed arityOf makePart takeChildren trees treeOf programRefusal nextOf block tableOf compiled fileIn isTable outcome reached satisfied violated restZero valuesAllowed clockAllowed clocksAllowed markedChildren childrenAllowed partsAllowed rootAllowed recordBytes recordAllowed beginsIn initialMarksFrom initialMarks checkedFrom leavesFrom valuesFor goalBytes transition applied settledFrom estimateAllowed freshRecord beginRefusal begunInto offerRefusal offeredInto goalsInto worksFrom settleRefusal settledInto
 worked =
     record {
       begun-says = record { marks-are = refl; phase-is = refl; time-is = refl; estimate-is = refl; started-are = refl; starts-are = refl };
@@ -175,7 +175,7 @@ tree =
     (one (goal (operand 0 0 1))))
 
 pub tree-is : treeOf File file ≡ some tree
-unfolding kindOf numberOf known arity entries arityOf make place trees treeOf
+unfolding kindOf numberOf known arity entries arityOf makePart takeChildren trees treeOf
 tree-is = refl
 
 -- the SEQ is at its first child, a MAINTAIN that holds, whose SEQ is at its second

@@ -15,7 +15,7 @@ use Rattle.meaning.specs.Cycle.{beginRefusal, begunInto}
 use Rattle.meaning.specs.Answers.{tooDeep, bufferTooShort, wrongPhase, timeBeforeLast, estimateNotAllowed, runFinished}
 use Rattle.agreement.specs.Runs.{Call, offer, settling, Reply, refused, goals, running, done, tableReplies, tableAfter, begin, treeReplies, treeAfter, tableFinishing, treeFinishing}
 
--- A station: the program file, what reading answers (0, or its refusal), the first estimate, the calls, their replies, the finishing cycle,
+-- A station: the program file, what compiling answers (0, or its refusal), the first estimate, the calls, their replies, the finishing cycle,
 -- and each clock's started flag and start after the calls
 pub record Station : Type 0 where
   pub file : List ℕ
@@ -41,22 +41,22 @@ with-estimate e = settling (e ∷ [])
 abbrev pub goal-is : ℕ → Reply
 goal-is g = goals (g ∷ [])
 
--- a program that starts no clock, one that starts its clock, and one that reading refuses
+-- a program that starts no clock, one that starts its clock, and one that compiling refuses
 abbrev pub station : List ℕ → ℕ → List Call → List Reply → Option ℕ → Station
 station f e cs rs n = record { file = f; answer = 0; first = e ∷ []; calls = cs; replies = rs; finishing = n; started = 0 ∷ []; starts = 0 ∷ [] }
 
-abbrev pub starting : List ℕ → List Call → List Reply → Option ℕ → ℕ → Station
-starting f cs rs n start = record { file = f; answer = 0; first = 0 ∷ []; calls = cs; replies = rs; finishing = n; started = 1 ∷ []; starts = start ∷ [] }
+abbrev pub startingStation : List ℕ → List Call → List Reply → Option ℕ → ℕ → Station
+startingStation f cs rs n start = record { file = f; answer = 0; first = 0 ∷ []; calls = cs; replies = rs; finishing = n; started = 1 ∷ []; starts = start ∷ [] }
 
-abbrev pub turnedDown : List ℕ → ℕ → Station
-turnedDown f n = record { file = f; answer = n; first = []; calls = []; replies = []; finishing = none; started = []; starts = [] }
+abbrev pub refusedStation : List ℕ → ℕ → Station
+refusedStation f n = record { file = f; answer = n; first = []; calls = []; replies = []; finishing = none; started = []; starts = [] }
 
 -- GOAL 0=1; MAINTAIN(0≠2, GOAL 0=1); MAINTAIN(clock 0 below 5, GOAL 0=1)
 abbrev pub goal1 : List ℕ
 goal1 = program 1 (1 ∷ []) (0 ∷ 0 ∷ 1 ∷ 0 ∷ [])
 
-abbrev pub kept : List ℕ
-kept = program 2 (6 ∷ 1 ∷ []) (2 ∷ 0 ∷ 2 ∷ 0 ∷ 0 ∷ 0 ∷ 1 ∷ 0 ∷ [])
+abbrev pub maintains : List ℕ
+maintains = program 2 (6 ∷ 1 ∷ []) (2 ∷ 0 ∷ 2 ∷ 0 ∷ 0 ∷ 0 ∷ 1 ∷ 0 ∷ [])
 
 abbrev pub limited : List ℕ
 limited = program 2 (6 ∷ 1 ∷ []) (4 ∷ 0 ∷ 5 ∷ 0 ∷ 0 ∷ 0 ∷ 1 ∷ 0 ∷ [])
@@ -83,17 +83,17 @@ repeats n = program (suc n) (replicate n 8 ++ (1 ∷ [])) (replicate n 0 ++ (rep
 unfoldable pub stations : List Station
 stations =
     station goal1 0 (at 0 ∷ with-estimate 0 ∷ at 0 ∷ with-estimate 1 ∷ []) (goal-is 1 ∷ running ∷ goal-is 1 ∷ done ∷ []) (some 2)
-    ∷ station kept 2 (at 0 ∷ with-estimate 0 ∷ []) (goal-is 255 ∷ done ∷ []) (some 1)
-    ∷ station kept 2 (at 0 ∷ with-estimate 2 ∷ []) (goal-is 255 ∷ done ∷ []) (some 1)
+    ∷ station maintains 2 (at 0 ∷ with-estimate 0 ∷ []) (goal-is 255 ∷ done ∷ []) (some 1)
+    ∷ station maintains 2 (at 0 ∷ with-estimate 2 ∷ []) (goal-is 255 ∷ done ∷ []) (some 1)
     ∷ station limited 0 (at 0 ∷ []) (goal-is 1 ∷ []) none
     ∷ station limited 0 (at 4294967295 ∷ []) (goal-is 1 ∷ []) none
     ∷ station branches 0 (at 0 ∷ with-estimate 0 ∷ at 0 ∷ []) (goal-is 255 ∷ running ∷ goal-is 2 ∷ []) none
     ∷ station contests 0 (at 0 ∷ with-estimate 1 ∷ at 0 ∷ []) (goal-is 254 ∷ running ∷ goal-is 2 ∷ []) none
     ∷ station (repeats 1) 0 (at 0 ∷ with-estimate 1 ∷ at 0 ∷ []) (goal-is 1 ∷ running ∷ goal-is 1 ∷ []) none
-    ∷ starting starts2 (at 10 ∷ with-estimate 0 ∷ at 20 ∷ with-estimate 0 ∷ []) (goal-is 255 ∷ running ∷ goal-is 255 ∷ done ∷ []) (some 2) 10
-    ∷ starting waits (at 100 ∷ with-estimate 0 ∷ at 109 ∷ with-estimate 0 ∷ at 110 ∷ with-estimate 0 ∷ []) (goal-is 255 ∷ running ∷ goal-is 255 ∷ running ∷ goal-is 255 ∷ done ∷ []) (some 3) 100
+    ∷ startingStation starts2 (at 10 ∷ with-estimate 0 ∷ at 20 ∷ with-estimate 0 ∷ []) (goal-is 255 ∷ running ∷ goal-is 255 ∷ done ∷ []) (some 2) 10
+    ∷ startingStation waits (at 100 ∷ with-estimate 0 ∷ at 109 ∷ with-estimate 0 ∷ at 110 ∷ with-estimate 0 ∷ []) (goal-is 255 ∷ running ∷ goal-is 255 ∷ running ∷ goal-is 255 ∷ done ∷ []) (some 3) 100
     ∷ station (repeats 15) 0 (at 0 ∷ []) (goal-is 1 ∷ []) none
-    ∷ turnedDown (repeats 16) tooDeep
+    ∷ refusedStation (repeats 16) tooDeep
     ∷ []
 
 -- What no station tries: WAIT 0=1, SEQ(START 0, WAIT clock 0 below 5) on either side of its bound, and refused calls, which change nothing:
@@ -108,8 +108,8 @@ waitsBelow = program 3 (4 ∷ 2 ∷ 3 ∷ []) (2 ∷ 0 ∷ 0 ∷ 0 ∷ 0 ∷ 0 �
 unfoldable pub further : List Station
 further =
     station waitsValue 0 (at 0 ∷ with-estimate 0 ∷ at 0 ∷ with-estimate 1 ∷ []) (goal-is 255 ∷ running ∷ goal-is 255 ∷ done ∷ []) (some 2)
-    ∷ starting waitsBelow (at 10 ∷ with-estimate 0 ∷ at 15 ∷ with-estimate 0 ∷ []) (goal-is 255 ∷ running ∷ goal-is 255 ∷ running ∷ []) none 10
-    ∷ starting waitsBelow (at 10 ∷ with-estimate 0 ∷ at 14 ∷ with-estimate 0 ∷ []) (goal-is 255 ∷ running ∷ goal-is 255 ∷ done ∷ []) (some 2) 10
+    ∷ startingStation waitsBelow (at 10 ∷ with-estimate 0 ∷ at 15 ∷ with-estimate 0 ∷ []) (goal-is 255 ∷ running ∷ goal-is 255 ∷ running ∷ []) none 10
+    ∷ startingStation waitsBelow (at 10 ∷ with-estimate 0 ∷ at 14 ∷ with-estimate 0 ∷ []) (goal-is 255 ∷ running ∷ goal-is 255 ∷ done ∷ []) (some 2) 10
     ∷ station goal1 0 (with-estimate 0 ∷ at 5 ∷ with-estimate 251 ∷ settling (0 ∷ 0 ∷ []) ∷ at 5 ∷ with-estimate 0 ∷ []) (refused wrongPhase ∷ goal-is 1 ∷ refused estimateNotAllowed ∷ refused estimateNotAllowed ∷ refused wrongPhase ∷ running ∷ []) none
     ∷ station goal1 0 (at 5 ∷ with-estimate 0 ∷ at 4 ∷ offer 5 [] ∷ at 5 ∷ with-estimate 1 ∷ at 6 ∷ with-estimate 1 ∷ []) (goal-is 1 ∷ running ∷ refused timeBeforeLast ∷ refused bufferTooShort ∷ goal-is 1 ∷ done ∷ refused runFinished ∷ refused runFinished ∷ []) (some 2)
     ∷ []

@@ -1,7 +1,7 @@
 -- `write_begun` meets its contract: each answer has its line.
 use borrow.Author.Needs.{needs}
 use Rattle.desk_format.proofs.Texts.{same-room, same-text}
-use Rattle.desk_answers.proofs.Answering.{begun-done, begun-refused}
+use Rattle.desk_answers.proofs.Answering.{begun-done-text, begun-refused-text}
 use Rattle.desk_answers.proofs.write_begun.Statement.{statement}
 use Rattle.desk_answers.proofs.write_begun.Tie as tie
 
@@ -12,25 +12,25 @@ slice-aggregate-write-word : tie.Need-slice-aggregate-write-word
 slice-aggregate-write-word c = search needs
 
 write-word-requires : tie.Need-write-word-requires
-write-word-requires c κs = same-room _ (begun-done (c .before .before .enum-told .given .1)) (c .before .before .before .before .before .pre)
+write-word-requires c κs = same-room _ (begun-done-text (c .before .before .enum-told .given .1)) (c .before .before .before .before .before .pre)
 
 enum-known-a : tie.Need-enum-known-a
 enum-known-a c = search needs
 
 write-refused-requires : tie.Need-write-refused-requires
-write-refused-requires c κs = same-room _ (begun-refused (c .before .before .a .given .1)) (c .before .before .before .before .before .pre)
+write-refused-requires c κs = same-room _ (begun-refused-text (c .before .before .a .given .1)) (c .before .before .before .before .before .pre)
 
 same-length : tie.Need-same-length
 same-length c = search needs
 
 returns : tie.Need-returns
-returns c = same-text (begun-done (c .before .before .before .before .before .enum-told .given .1)) (c .before .before .write-word .ensures)
+returns c = same-text (begun-done-text (c .before .before .before .before .before .enum-told .given .1)) (c .before .before .write-word .ensures)
 
 same-length-2 : tie.Need-same-length-2
 same-length-2 c = search needs
 
 returns-2 : tie.Need-returns-2
-returns-2 c = same-text (begun-refused (c .before .before .before .before .before .a .given .1)) (c .before .before .write-refused .ensures)
+returns-2 c = same-text (begun-refused-text (c .before .before .before .before .before .a .given .1)) (c .before .before .write-refused .ensures)
 
 pub write-begun-spec : {M : Type 1} → statement M
 write-begun-spec =

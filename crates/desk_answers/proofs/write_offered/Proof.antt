@@ -14,14 +14,14 @@ write-refused-requires c κs = same-room _ (offered-refused _ (c .before .before
 enum-told : tie.Need-enum-told
 enum-told c = search needs
 
-write-goals-requires : tie.Need-write-goals-requires
-write-goals-requires c κs = same-room _ (offered-agreed _ (c .before .enum-told .given .1)) (c .before .before .before .before .before .pre)
+write-goals-text-requires : tie.Need-write-goals-text-requires
+write-goals-text-requires c κs = same-room _ (offered-agreed _ (c .before .enum-told .given .1)) (c .before .before .before .before .before .pre)
 
 enum-known-a-2 : tie.Need-enum-known-a-2
 enum-known-a-2 c = search needs
 
-write-goals-requires-2 : tie.Need-write-goals-requires-2
-write-goals-requires-2 c κs = same-room _ (offered-contested _ (c .before .before .a2 .given .1)) (c .before .before .before .before .before .before .pre)
+write-goals-text-requires-2 : tie.Need-write-goals-text-requires-2
+write-goals-text-requires-2 c κs = same-room _ (offered-contested _ (c .before .before .a2 .given .1)) (c .before .before .before .before .before .before .pre)
 
 same-length : tie.Need-same-length
 same-length c = search needs
@@ -33,13 +33,13 @@ same-length-2 : tie.Need-same-length-2
 same-length-2 c = search needs
 
 returns-2 : tie.Need-returns-2
-returns-2 c = same-text (offered-agreed _ (c .before .before .before .before .enum-told .given .1)) (c .before .before .write-goals .ensures)
+returns-2 c = same-text (offered-agreed _ (c .before .before .before .before .enum-told .given .1)) (c .before .before .write-goals-text .ensures)
 
 same-length-3 : tie.Need-same-length-3
 same-length-3 c = search needs
 
 returns-3 : tie.Need-returns-3
-returns-3 c = same-text (offered-contested _ (c .before .before .before .before .before .a2 .given .1)) (c .before .before .write-goals2 .ensures)
+returns-3 c = same-text (offered-contested _ (c .before .before .before .before .before .a2 .given .1)) (c .before .before .write-goals-text2 .ensures)
 
 pub write-offered-spec : {M : Type 1} → statement M
 write-offered-spec =
@@ -48,9 +48,9 @@ write-offered-spec =
     enum-known-a
     write-refused-requires
     enum-told
-    write-goals-requires
+    write-goals-text-requires
     enum-known-a-2
-    write-goals-requires-2
+    write-goals-text-requires-2
     same-length
     returns
     same-length-2

@@ -1,7 +1,7 @@
 -- `write_settled` meets its contract: each answer has its line.
 use borrow.Author.Needs.{needs}
 use Rattle.desk_format.proofs.Texts.{same-room, same-text}
-use Rattle.desk_answers.proofs.Answering.{settled-refused, settled-running, settled-finished}
+use Rattle.desk_answers.proofs.Answering.{settled-refused-text, settled-running-text, settled-finished-text}
 use Rattle.desk_answers.proofs.write_settled.Statement.{statement}
 use Rattle.desk_answers.proofs.write_settled.Tie as tie
 
@@ -9,7 +9,7 @@ enum-known-a : tie.Need-enum-known-a
 enum-known-a c = search needs
 
 write-refused-requires : tie.Need-write-refused-requires
-write-refused-requires c κs = same-room _ (settled-refused (c .before .before .a .given .1)) (c .before .before .before .before .before .pre)
+write-refused-requires c κs = same-room _ (settled-refused-text (c .before .before .a .given .1)) (c .before .before .before .before .before .pre)
 
 enum-told : tie.Need-enum-told
 enum-told c = search needs
@@ -18,7 +18,7 @@ slice-aggregate-write-word : tie.Need-slice-aggregate-write-word
 slice-aggregate-write-word c = search needs
 
 write-word-requires : tie.Need-write-word-requires
-write-word-requires c κs = same-room _ (settled-running (c .before .before .enum-told .given .1)) (c .before .before .before .before .before .pre)
+write-word-requires c κs = same-room _ (settled-running-text (c .before .before .enum-told .given .1)) (c .before .before .before .before .before .pre)
 
 enum-told-2 : tie.Need-enum-told-2
 enum-told-2 c = search needs
@@ -27,25 +27,25 @@ slice-aggregate-write-word-2 : tie.Need-slice-aggregate-write-word-2
 slice-aggregate-write-word-2 c = search needs
 
 write-word-requires-2 : tie.Need-write-word-requires-2
-write-word-requires-2 c κs = same-room _ (settled-finished (c .before .before .enum-told2 .given .1)) (c .before .before .before .before .before .pre)
+write-word-requires-2 c κs = same-room _ (settled-finished-text (c .before .before .enum-told2 .given .1)) (c .before .before .before .before .before .pre)
 
 same-length : tie.Need-same-length
 same-length c = search needs
 
 returns : tie.Need-returns
-returns c = same-text (settled-refused (c .before .before .before .before .before .a .given .1)) (c .before .before .write-refused .ensures)
+returns c = same-text (settled-refused-text (c .before .before .before .before .before .a .given .1)) (c .before .before .write-refused .ensures)
 
 same-length-2 : tie.Need-same-length-2
 same-length-2 c = search needs
 
 returns-2 : tie.Need-returns-2
-returns-2 c = same-text (settled-running (c .before .before .before .before .before .enum-told .given .1)) (c .before .before .write-word .ensures)
+returns-2 c = same-text (settled-running-text (c .before .before .before .before .before .enum-told .given .1)) (c .before .before .write-word .ensures)
 
 same-length-3 : tie.Need-same-length-3
 same-length-3 c = search needs
 
 returns-3 : tie.Need-returns-3
-returns-3 c = same-text (settled-finished (c .before .before .before .before .before .enum-told2 .given .1)) (c .before .before .write-word2 .ensures)
+returns-3 c = same-text (settled-finished-text (c .before .before .before .before .before .enum-told2 .given .1)) (c .before .before .write-word2 .ensures)
 
 pub write-settled-spec : {M : Type 1} → statement M
 write-settled-spec =

@@ -1,5 +1,5 @@
 -- `offer_with` meets its contract: its five ends are the definition's five cases.
-use Rattle.desk_calls.proofs.Calling.{offer-untimed, offer-alone, offer-unlong, offer-long, offer-longer}
+use Rattle.desk_calls.proofs.Calling.{offer-untimed, offer-alone, offer-unlong, offer-with-length, offer-longer}
 use borrow.Author.Needs.{needs}
 use Rattle.desk_calls.proofs.offer_with.Statement.{statement}
 use Rattle.desk_calls.proofs.offer_with.Tie as tie
@@ -53,7 +53,7 @@ trimmed-requires-3 : tie.Need-trimmed-requires-3
 trimmed-requires-3 c κs = search needs
 
 returns-4 : tie.Need-returns-4
-returns-4 c = search offer-long
+returns-4 c = search offer-with-length
 
 returns-5 : tie.Need-returns-5
 returns-5 c = search offer-longer

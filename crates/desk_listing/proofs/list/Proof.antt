@@ -1,4 +1,4 @@
--- `list` meets its contract: the text of the table where the file is read into one, else the line of its refusal.
+-- `list` meets its contract: the text of the table where the file is compiled, else the line of its refusal.
 use borrow.Author.Needs.{needs}
 use native.Mathlib.Omega.{arith}
 use Rattle.meaning.specs.declared.Form.the-variants.{Table}
@@ -16,11 +16,11 @@ compile-requires c κs = search needs
 enum-told : tie.Need-enum-told
 enum-told c = search needs
 
-slice-aggregate-write-table : tie.Need-slice-aggregate-write-table
-slice-aggregate-write-table c = search needs
+slice-aggregate-write-table-text : tie.Need-slice-aggregate-write-table-text
+slice-aggregate-write-table-text c = search needs
 
-write-table-requires : tie.Need-write-table-requires
-write-table-requires c κs =
+write-table-text-requires : tie.Need-write-table-text-requires
+write-table-text-requires c κs =
     let a = c .before .before .before .before .before .compile .ensures in
     omega (arith, list-long _ (lengthOf Table maxParts) (omega arith) _ (a .0) _ (a .1) (c .before .before .enum-told .given .1))
 
@@ -36,7 +36,7 @@ same-length c = search needs
 returns : tie.Need-returns
 returns c =
     let a = c .before .before .before .before .before .before .before .before .compile .ensures in
-    list-done _ _ _ _ (lengthOf Table maxParts) (omega arith) _ (a .0) _ (a .1) (c .before .before .before .before .before .enum-told .given .1) (c .before .before .write-table .ensures)
+    list-done _ _ _ _ (lengthOf Table maxParts) (omega arith) _ (a .0) _ (a .1) (c .before .before .before .before .before .enum-told .given .1) (c .before .before .write-table-text .ensures)
 
 same-length-2 : tie.Need-same-length-2
 same-length-2 c = search needs
@@ -53,8 +53,8 @@ list-spec =
     slice-aggregate-compile
     compile-requires
     enum-told
-    slice-aggregate-write-table
-    write-table-requires
+    slice-aggregate-write-table-text
+    write-table-text-requires
     enum-known-answer
     write-refusal-requires
     same-length

@@ -4,11 +4,11 @@ use borrow.Author.Needs.{needs}
 use Rattle.desk_parse.proofs.letters.Statement.{statement}
 use Rattle.desk_parse.proofs.letters.Tie as tie
 
-find-requires : tie.Need-find-requires
-find-requires c κs = search needs
+place-of-requires : tie.Need-place-of-requires
+place-of-requires c κs = search needs
 
 returns : tie.Need-returns
 returns c = search place-all
 
 pub letters-spec : {M : Type 1} → statement M
-letters-spec = tie.close (tie.spec find-requires returns)
+letters-spec = tie.close (tie.spec place-of-requires returns)

@@ -7,11 +7,11 @@ use lib.ListN.{length-take}
 use Rattle.desk_rehearsal.proofs.answer_line.Statement.{statement}
 use Rattle.desk_rehearsal.proofs.answer_line.Tie as tie
 
-slice-aggregate-hear : tie.Need-slice-aggregate-hear
-slice-aggregate-hear c = search needs
+slice-aggregate-parse-line : tie.Need-slice-aggregate-parse-line
+slice-aggregate-parse-line c = search needs
 
-hear-requires : tie.Need-hear-requires
-hear-requires c κs = search needs
+parse-line-requires : tie.Need-parse-line-requires
+parse-line-requires c κs = search needs
 
 estimate-length-requires : tie.Need-estimate-length-requires
 estimate-length-requires c κs = search needs
@@ -19,14 +19,14 @@ estimate-length-requires c κs = search needs
 array-share-prefix-bytes : tie.Need-array-share-prefix-bytes
 array-share-prefix-bytes c = search hearing-fits
 
-slice-aggregate-make : tie.Need-slice-aggregate-make
-slice-aggregate-make c =
+slice-aggregate-make-call : tie.Need-slice-aggregate-make-call
+slice-aggregate-make-call c =
     let counted = c .before .before in
     let heard = counted .before .before in
-    simp length-take (omega (arith, hearing-fits _ _ _ _ (heard .hear .ensures) (counted .estimate-length .ensures)))
+    simp length-take (omega (arith, hearing-fits _ _ _ _ (heard .parse-line .ensures) (counted .estimate-length .ensures)))
 
-make-requires : tie.Need-make-requires
-make-requires c κs = search needs
+make-call-requires : tie.Need-make-call-requires
+make-call-requires c κs = search needs
 
 is-call-requires : tie.Need-is-call-requires
 is-call-requires c κs = search needs
@@ -38,7 +38,7 @@ add-parts-requires c κs =
     let counted = made .before .before .before .before in
     let heard = counted .before .before in
     let sizes = heard .before .before .before .before .before .shared-slice-known .given in
-    answer-room _ _ _ _ _ _ _ _ (heard .before .before .before .before .before .before .args .asked) _ _ _ _ _ (heard .hear .ensures) (counted .estimate-length .ensures) (called .is-call .ensures) (made .make .ensures) (sizes 0 .fits) (sizes 1 .fits)
+    answer-room _ _ _ _ _ _ _ _ (heard .before .before .before .before .before .before .args .asked) _ _ _ _ _ (heard .parse-line .ensures) (counted .estimate-length .ensures) (called .is-call .ensures) (made .make-call .ensures) (sizes 0 .fits) (sizes 1 .fits)
 
 same-length : tie.Need-same-length
 same-length c = search needs
@@ -53,18 +53,18 @@ returns c =
     let counted = made .before .before .before .before in
     let heard = counted .before .before in
     let sizes = heard .before .before .before .before .before .shared-slice-known .given in
-    answer-made _ _ _ _ _ _ _ _ (heard .before .before .before .before .before .before .args .asked) _ _ _ _ _ (heard .hear .ensures) (counted .estimate-length .ensures) (called .is-call .ensures) (made .make .ensures) (sizes 0 .fits) (sizes 1 .fits) _ _ (c .before .before .add-parts .ensures)
+    answer-made _ _ _ _ _ _ _ _ (heard .before .before .before .before .before .before .args .asked) _ _ _ _ _ (heard .parse-line .ensures) (counted .estimate-length .ensures) (called .is-call .ensures) (made .make-call .ensures) (sizes 0 .fits) (sizes 1 .fits) _ _ (c .before .before .add-parts .ensures)
 
 pub answer-line-spec : {M : Type 1} → statement M
 answer-line-spec =
     tie.close
     (tie.spec
-    slice-aggregate-hear
-    hear-requires
+    slice-aggregate-parse-line
+    parse-line-requires
     estimate-length-requires
     array-share-prefix-bytes
-    slice-aggregate-make
-    make-requires
+    slice-aggregate-make-call
+    make-call-requires
     is-call-requires
     add-parts-requires
     same-length

@@ -1,6 +1,6 @@
 -- `gurvoke_offer` meets its contract: the number that it answers is the number of what `offer` answers.
 use borrow.Author.Needs.{needs}
-use Rattle.gurvoke.proofs.Telling.{offer-told}
+use Rattle.gurvoke.proofs.Telling.{offer-numbered}
 use Rattle.gurvoke.proofs.gurvoke_offer.Statement.{statement}
 use Rattle.gurvoke.proofs.gurvoke_offer.Tie as tie
 
@@ -17,7 +17,7 @@ same-length-2 : tie.Need-same-length-2
 same-length-2 c = search needs
 
 returns : tie.Need-returns
-returns c = search offer-told
+returns c = search offer-numbered
 
 pub gurvoke-offer-spec : {M : Type 1} → statement M
 gurvoke-offer-spec =

@@ -1,12 +1,12 @@
 -- `compile` meets its contract: one law of Operations for each answer.
 use Rattle.meaning.proofs.Answers.{not-refused}
-use Rattle.program_compile.proofs.Compiling.{read-refused, read-short, read-fits, read-done}
+use Rattle.program_compile.proofs.Compiling.{compile-refused, compile-short, read-fits, compile-done}
 use borrow.Author.Needs.{needs}
 use Rattle.program_compile.proofs.compile.Statement.{statement}
 use Rattle.program_compile.proofs.compile.Tie as tie
 
-examine-requires : tie.Need-examine-requires
-examine-requires c κs = search needs
+program-refusal-requires : tie.Need-program-refusal-requires
+program-refusal-requires c κs = search needs
 
 enum-told : tie.Need-enum-told
 enum-told c = search needs
@@ -15,7 +15,7 @@ enum-told-2 : tie.Need-enum-told-2
 enum-told-2 c = search needs
 
 returns : tie.Need-returns
-returns c = read-refused _ _ _ _ (c .before .before .examine .ensures) (c .enum-told2 .given .1)
+returns c = compile-refused _ _ _ _ (c .before .before .program-refusal .ensures) (c .enum-told2 .given .1)
 
 parts-requires : tie.Need-parts-requires
 parts-requires c κs = search needs
@@ -24,11 +24,11 @@ length-of-requires : tie.Need-length-of-requires
 length-of-requires c κs = search needs
 
 returns-2 : tie.Need-returns-2
-returns-2 c = read-short _ _ _ _ (not-refused _ _ (c .before .before .before .before .before .examine .ensures) (c .before .before .before .enum-told .given .1)) (c .before .before .parts .ensures) (c .before .length-of .ensures) (c .if1 .taken)
+returns-2 c = compile-short _ _ _ _ (not-refused _ _ (c .before .before .before .before .before .program-refusal .ensures) (c .before .before .before .enum-told .given .1)) (c .before .before .parts .ensures) (c .before .length-of .ensures) (c .if1 .taken)
 
 write-table-requires : tie.Need-write-table-requires
 write-table-requires c κs =
-    let h = not-refused _ _ (c .before .before .before .before .before .before .examine .ensures) (c .before .before .before .before .enum-told .given .1) in
+    let h = not-refused _ _ (c .before .before .before .before .before .before .program-refusal .ensures) (c .before .before .before .before .enum-told .given .1) in
     read-fits _ _ _ _ h (c .before .before .before .parts .ensures) (c .before .before .length-of .ensures) (c .before .if1 .left)
 
 same-length : tie.Need-same-length
@@ -38,13 +38,13 @@ returns-3 : tie.Need-returns-3
 returns-3 c =
     let room = c .before .before .before .before in
     let told = room .before .before .before in
-    read-done _ _ _ _ (not-refused _ _ (told .before .before .examine .ensures) (told .enum-told .given .1)) (room .before .before .parts .ensures) (room .before .length-of .ensures) _ (room .if1 .left) (c .before .before .write-table .ensures)
+    compile-done _ _ _ _ (not-refused _ _ (told .before .before .program-refusal .ensures) (told .enum-told .given .1)) (room .before .before .parts .ensures) (room .before .length-of .ensures) _ (room .if1 .left) (c .before .before .write-table .ensures)
 
 pub compile-spec : {M : Type 1} → statement M
 compile-spec =
     tie.close
     (tie.spec
-    examine-requires
+    program-refusal-requires
     enum-told
     enum-told-2
     returns

@@ -1,5 +1,5 @@
 -- `decompile` meets its contract: one law of Operations for each answer.
-use Rattle.program_decompile.proofs.Decompiling.{write-refused, write-short, write-fits, write-done}
+use Rattle.program_decompile.proofs.Decompiling.{decompile-refused, decompile-short, write-fits, decompile-done}
 use borrow.Author.Needs.{needs}
 use Rattle.program_decompile.proofs.decompile.Statement.{statement}
 use Rattle.program_decompile.proofs.decompile.Tie as tie
@@ -8,7 +8,7 @@ is-table-requires : tie.Need-is-table-requires
 is-table-requires c κs = search needs
 
 returns : tie.Need-returns
-returns c = write-refused _ _ _ (c .before .is-table .ensures) (c .if1 .taken)
+returns c = decompile-refused _ _ _ (c .before .is-table .ensures) (c .if1 .taken)
 
 parts-requires : tie.Need-parts-requires
 parts-requires c κs = search needs
@@ -17,7 +17,7 @@ length-of-requires : tie.Need-length-of-requires
 length-of-requires c κs = search needs
 
 returns-2 : tie.Need-returns-2
-returns-2 c = write-short _ _ _ (c .before .before .before .before .is-table .ensures) _ _ (c .before .before .before .if1 .left) (c .before .before .parts .ensures) (c .before .length-of .ensures) (c .if2 .taken)
+returns-2 c = decompile-short _ _ _ (c .before .before .before .before .is-table .ensures) _ _ (c .before .before .before .if1 .left) (c .before .before .parts .ensures) (c .before .length-of .ensures) (c .if2 .taken)
 
 write-file-requires : tie.Need-write-file-requires
 write-file-requires c κs = write-fits _ _ _ _ _ (c .before .before .before .before .before .is-table .ensures) (c .before .before .before .before .if1 .left) (c .before .before .before .parts .ensures) (c .before .before .length-of .ensures) (c .before .if2 .left)
@@ -26,7 +26,7 @@ same-length : tie.Need-same-length
 same-length c = search needs
 
 returns-3 : tie.Need-returns-3
-returns-3 c = write-done _ _ _ (c .before .before .before .before .before .before .before .before .is-table .ensures) _ _ (c .before .before .before .before .before .before .before .if1 .left) (c .before .before .before .before .before .before .parts .ensures) (c .before .before .before .before .before .length-of .ensures) _ (c .before .before .before .before .if2 .left) (c .before .before .write-file .ensures)
+returns-3 c = decompile-done _ _ _ (c .before .before .before .before .before .before .before .before .is-table .ensures) _ _ (c .before .before .before .before .before .before .before .if1 .left) (c .before .before .before .before .before .before .parts .ensures) (c .before .before .before .before .before .length-of .ensures) _ (c .before .before .before .before .if2 .left) (c .before .before .write-file .ensures)
 
 pub decompile-spec : {M : Type 1} → statement M
 decompile-spec =

@@ -1,6 +1,6 @@
 -- `begin` meets its contract: one law of Beginning for each answer.
 use borrow.Author.Needs.{needs}
-use Rattle.run_begin.proofs.Beginning.{begin-no-table, begin-no-estimate, begin-short, not-refused, begin-done}
+use Rattle.run_begin.proofs.Beginning.{begin-no-table, begin-no-estimate, begin-short, begin-not-refused, begin-done}
 use Rattle.run_begin.proofs.begin.Statement.{statement}
 use Rattle.run_begin.proofs.begin.Tie as tie
 
@@ -19,8 +19,8 @@ returns-2 c = search begin-no-estimate
 returns-3 : tie.Need-returns-3
 returns-3 c = search begin-short
 
-write-fresh-requires : tie.Need-write-fresh-requires
-write-fresh-requires c κs = search not-refused
+write-fresh-record-requires : tie.Need-write-fresh-record-requires
+write-fresh-record-requires c κs = search begin-not-refused
 
 same-length : tie.Need-same-length
 same-length c = search needs
@@ -37,6 +37,6 @@ begin-spec =
     estimate-allowed-requires
     returns-2
     returns-3
-    write-fresh-requires
+    write-fresh-record-requires
     same-length
     returns-4)

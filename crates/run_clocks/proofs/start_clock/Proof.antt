@@ -1,6 +1,6 @@
 -- `start_clock` meets its contract: a started clock keeps its bytes, and any other is started at the time.
 use borrow.Author.Needs.{needs}
-use Rattle.run_clocks.proofs.Starting.{clock-kept, clock-stored}
+use Rattle.run_clocks.proofs.Starting.{clock-started-before, clock-stored}
 use Rattle.run_clocks.proofs.start_clock.Statement.{statement}
 use Rattle.run_clocks.proofs.start_clock.Tie as tie
 
@@ -11,7 +11,7 @@ same-length : tie.Need-same-length
 same-length c = search needs
 
 returns : tie.Need-returns
-returns c = search clock-kept
+returns c = search clock-started-before
 
 wide-requires : tie.Need-wide-requires
 wide-requires c κs = search needs

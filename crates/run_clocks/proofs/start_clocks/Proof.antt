@@ -7,7 +7,7 @@ use borrow.Author.Needs.{needs}
 use Rattle.meaning.specs.Program.{parts}
 use Rattle.meaning.proofs.Records.{allowed-long, still-long}
 use Rattle.run_clocks.specs.Starting.{partsStarted}
-use Rattle.run_clocks.proofs.Starting.{parts-step, parts-end}
+use Rattle.run_clocks.proofs.Starting.{parts-step, parts-started-end}
 use Rattle.run_clocks.proofs.Pass.{clocks-made}
 use Rattle.run_clocks.proofs.start_clocks.Statement.{statement}
 use Rattle.run_clocks.proofs.start_clocks.Tie as tie
@@ -49,7 +49,7 @@ returns : tie.Need-returns Inv-loop μ-loop
 returns c =
     let look = c .before .before .before in
     let start = look .before .before in
-    clocks-made _ _ (start .before .before .pre .0) (start .before .before .pre .1) (λ i. start .slice-known .given i .fits) _ _ (look .last-time .ensures) (search parts-end)
+    clocks-made _ _ (start .before .before .pre .0) (start .before .before .pre .1) (λ i. start .slice-known .given i .fits) _ _ (look .last-time .ensures) (search parts-started-end)
 
 pub start-clocks-spec : {M : Type 1} → statement M
 start-clocks-spec =

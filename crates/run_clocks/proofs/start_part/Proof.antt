@@ -1,13 +1,13 @@
 -- `start_part` meets its contract: a marked START starts its clock, any other part nothing.
 use borrow.Author.Needs.{needs}
-use Rattle.program_part.proofs.Places.{row-held}
+use Rattle.program_part.proofs.Places.{row-readable}
 use Rattle.run_record.proofs.Marks.{mark-inside}
 use Rattle.run_clocks.proofs.Starting.{clock-named, part-starts, part-rests}
 use Rattle.run_clocks.proofs.start_part.Statement.{statement}
 use Rattle.run_clocks.proofs.start_part.Tie as tie
 
 entry-at-requires : tie.Need-entry-at-requires
-entry-at-requires c κs = search row-held
+entry-at-requires c κs = search row-readable
 
 is-marked-requires : tie.Need-is-marked-requires
 is-marked-requires c κs = search mark-inside

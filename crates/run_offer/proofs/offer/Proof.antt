@@ -5,8 +5,8 @@ use Rattle.run_offer.proofs.Offering.{offer-refused, offer-made}
 use Rattle.run_offer.proofs.offer.Statement.{statement}
 use Rattle.run_offer.proofs.offer.Tie as tie
 
-refusal-requires : tie.Need-refusal-requires
-refusal-requires c κs = search needs
+offer-refusal-requires : tie.Need-offer-refusal-requires
+offer-refusal-requires c κs = search needs
 
 enum-known-answer : tie.Need-enum-known-answer
 enum-known-answer c = search needs
@@ -14,8 +14,8 @@ enum-known-answer c = search needs
 enum-told : tie.Need-enum-told
 enum-told c = search needs
 
-make-requires : tie.Need-make-requires
-make-requires c κs = search not-refused
+make-offer-requires : tie.Need-make-offer-requires
+make-offer-requires c κs = search not-refused
 
 same-length : tie.Need-same-length
 same-length c = search needs
@@ -36,10 +36,10 @@ pub offer-spec : {M : Type 1} → statement M
 offer-spec =
     tie.close
     (tie.spec
-    refusal-requires
+    offer-refusal-requires
     enum-known-answer
     enum-told
-    make-requires
+    make-offer-requires
     same-length
     returns
     same-length-2

@@ -1,11 +1,11 @@
 -- `judge` meets its contract: one law of Answering for each answer.
 use borrow.Author.Needs.{needs}
-use Rattle.run_settle.proofs.Answering.{is-long, is-estimate, is-room, room-still, judged-early, is-table, judged-done, judged-stuck}
+use Rattle.run_settle.proofs.Answering.{is-long, is-estimate, is-room, room-still, judged-early, settling-is-table, judged-done, judged-stuck}
 use Rattle.run_settle.proofs.judge.Statement.{statement}
 use Rattle.run_settle.proofs.judge.Tie as tie
 
-refused-requires : tie.Need-refused-requires
-refused-requires c κs = search needs
+early-refusal-requires : tie.Need-early-refusal-requires
+early-refusal-requires c κs = search needs
 
 enum-told : tie.Need-enum-told
 enum-told c = search needs
@@ -17,13 +17,13 @@ returns : tie.Need-returns
 returns c = search judged-early
 
 settle-marks-requires : tie.Need-settle-marks-requires
-settle-marks-requires c κs = (search is-table, (search is-long, (search is-estimate, search is-room)))
+settle-marks-requires c κs = (search settling-is-table, (search is-long, (search is-estimate, search is-room)))
 
 at-requires : tie.Need-at-requires
 at-requires c κs = search needs
 
 works-requires : tie.Need-works-requires
-works-requires c κs = (search is-table, search room-still)
+works-requires c κs = (search settling-is-table, search room-still)
 
 same-length : tie.Need-same-length
 same-length c = search needs
@@ -35,7 +35,7 @@ returns-2 c =
     let marks = look .before .before .before .before in
     let told = marks .before .before in
     let early = told .before .before in
-    judged-done _ _ _ _ (early .refused .ensures) (told .enum-told .given .1) _ _ _ _ (early .before .before .before .before .before .pre) (marks .settle-marks .ensures) (look .at .ensures) (work .works .ensures) (c .if1 .taken)
+    judged-done _ _ _ _ (early .early-refusal .ensures) (told .enum-told .given .1) _ _ _ _ (early .before .before .before .before .before .pre) (marks .settle-marks .ensures) (look .at .ensures) (work .works .ensures) (c .if1 .taken)
 
 same-length-2 : tie.Need-same-length-2
 same-length-2 c = search needs
@@ -47,13 +47,13 @@ returns-3 c =
     let marks = look .before .before .before .before in
     let told = marks .before .before in
     let early = told .before .before in
-    judged-stuck _ _ _ _ (early .refused .ensures) (told .enum-told .given .1) _ _ _ _ (early .before .before .before .before .before .pre) (marks .settle-marks .ensures) (look .at .ensures) (work .works .ensures) (c .if1 .left)
+    judged-stuck _ _ _ _ (early .early-refusal .ensures) (told .enum-told .given .1) _ _ _ _ (early .before .before .before .before .before .pre) (marks .settle-marks .ensures) (look .at .ensures) (work .works .ensures) (c .if1 .left)
 
 pub judge-spec : {M : Type 1} → statement M
 judge-spec =
     tie.close
     (tie.spec
-    refused-requires
+    early-refusal-requires
     enum-told
     enum-told-2
     returns

@@ -1,5 +1,5 @@
 -- `after_settle` meets its contract: a law for each answer.
-use Rattle.desk_dispatch.proofs.Counted.{settle-refused, settle-running, settle-finished}
+use Rattle.desk_dispatch.proofs.Counted.{settle-refused-count, settle-running, settle-finished}
 use borrow.Author.Needs.{needs}
 use Rattle.desk_dispatch.proofs.counting.after_settle.Statement.{statement}
 use Rattle.desk_dispatch.proofs.counting.after_settle.Tie as tie
@@ -20,7 +20,7 @@ one-more-requires-2 : tie.Need-one-more-requires-2
 one-more-requires-2 c κs = search needs
 
 returns : tie.Need-returns
-returns c = search settle-refused
+returns c = search settle-refused-count
 
 returns-2 : tie.Need-returns-2
 returns-2 c = search settle-running

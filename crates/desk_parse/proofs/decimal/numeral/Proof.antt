@@ -3,13 +3,13 @@ use borrow.Author.Needs.{needs}
 use Prim.Native.Nat.{_-_}
 use mathlib.Core.Path.{_≡_}
 use lib.ListN.{drop}
-use Rattle.desk_parse.specs.Words.{valueFrom, numeralOf}
+use Rattle.desk_parse.specs.Words.{decimalFrom, numeralOf}
 use Rattle.desk_parse.proofs.Digits.{value-missing, value-starts, value-next, value-stops, value-ends}
 use Rattle.desk_parse.proofs.decimal.numeral.Statement.{statement}
 use Rattle.desk_parse.proofs.decimal.numeral.Tie as tie
 
 abbrev Inv-loop : tie.InvT-loop
-Inv-loop word x₀ i₀ i-end x i = valueFrom x (drop i word) ≡ numeralOf word
+Inv-loop word x₀ i₀ i-end x i = decimalFrom x (drop i word) ≡ numeralOf word
 
 abbrev μ-loop : tie.MeasureT-loop
 μ-loop word x₀ i₀ i-end x i = i-end - i

@@ -3,7 +3,7 @@ use borrow.Author.Needs.{needs}
 use Prim.Native.Nat.{_-_}
 use mathlib.Core.Path.{_≡_, _∙_}
 use lib.ListN.{length}
-use Rattle.desk_parse.proofs.Counted.{Reading, reading-starts, reading-space, fault-told, fault-stored, reading-pair, whole-told, whole-stored}
+use Rattle.desk_parse.proofs.Counted.{Reading, reading-starts, reading-space, fault-found, fault-stored, reading-pair, whole-found, whole-stored}
 use Rattle.desk_parse.proofs.Digits.{pair-taken}
 use Rattle.desk_parse.proofs.hexadecimal.read_pairs.Statement.{statement}
 use Rattle.desk_parse.proofs.hexadecimal.read_pairs.Tie as tie
@@ -42,7 +42,7 @@ same-length : tie.Need-same-length Inv-loop μ-loop
 same-length c = search needs
 
 returns : tie.Need-returns Inv-loop μ-loop
-returns c = (search fault-told, search fault-stored)
+returns c = (search fault-found, search fault-stored)
 
 pair-byte-requires : tie.Need-pair-byte-requires Inv-loop μ-loop
 pair-byte-requires c κs = search pair-taken
@@ -66,7 +66,7 @@ same-length-2 : tie.Need-same-length-2 Inv-loop μ-loop
 same-length-2 c = search needs
 
 returns-2 : tie.Need-returns-2 Inv-loop μ-loop
-returns-2 c = (search whole-told, search whole-stored)
+returns-2 c = (search whole-found, search whole-stored)
 
 pub read-pairs-spec : {M : Type 1} → statement M
 read-pairs-spec =

@@ -1,4 +1,4 @@
--- `is_one_tree` meets its contract: at each turn the entries that are left fill what is due exactly where all entries fill one place; each turn adds a number to what is due.
+-- `is_one_tree` meets its contract: at each turn the entries that are left form the trees that remain exactly where all entries form one; each turn adds a number to those.
 use Prim.Native.Nat.{_+_, _-_, _*_, _≤_}
 use mathlib.Core.Path.{_≡_, refl}
 use lib.ListN.{drop}
@@ -12,10 +12,10 @@ use Rattle.program_refusals.proofs.scan.is_one_tree.Statement.{statemen
 use Rattle.program_refusals.proofs.scan.is_one_tree.Tie as tie
 
 abbrev Inv-loop : tie.InvT-loop
-Inv-loop s due₀ p₀ p-end due p = (due ≤ 1 + numberLimit * p) × (fills (drop p (entries File s)) due ≡ fills (entries File s) 1)
+Inv-loop s remaining₀ p₀ p-end remaining p = (remaining ≤ 1 + numberLimit * p) × (fills (drop p (entries File s)) remaining ≡ fills (entries File s) 1)
 
 abbrev μ-loop : tie.MeasureT-loop
-μ-loop s due₀ p₀ p-end due p = p-end - p
+μ-loop s remaining₀ p₀ p-end remaining p = p-end - p
 
 parts-requires : tie.Need-parts-requires Inv-loop μ-loop
 parts-requires c κs = search needs
@@ -26,8 +26,8 @@ loop-holds c = (search needs, refl)
 returns : tie.Need-returns Inv-loop μ-loop
 returns c = search fills-stops
 
-sub-due : tie.Need-sub-due Inv-loop μ-loop
-sub-due c = search needs
+sub-remaining : tie.Need-sub-remaining Inv-loop μ-loop
+sub-remaining c = search needs
 
 entry-at-requires : tie.Need-entry-at-requires Inv-loop μ-loop
 entry-at-requires c κs = search needs
@@ -38,8 +38,8 @@ arity-requires c κs = search needs
 index-requires : tie.Need-index-requires Inv-loop μ-loop
 index-requires c κs = search needs
 
-add-due : tie.Need-add-due Inv-loop μ-loop
-add-due c = search needs
+add-remaining : tie.Need-add-remaining Inv-loop μ-loop
+add-remaining c = search needs
 
 add-p : tie.Need-add-p Inv-loop μ-loop
 add-p c = search needs
@@ -62,11 +62,11 @@ is-one-tree-spec =
     parts-requires
     loop-holds
     returns
-    sub-due
+    sub-remaining
     entry-at-requires
     arity-requires
     index-requires
-    add-due
+    add-remaining
     add-p
     loop-less
     loop-again

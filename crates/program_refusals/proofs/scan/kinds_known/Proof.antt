@@ -5,13 +5,13 @@ use lib.ListN.{drop}
 use borrow.Author.Needs.{needs}
 use Rattle.base.specs.Lists.{all}
 use Rattle.meaning.specs.declared.Form.the-variants.{File}
-use Rattle.meaning.specs.Program.{entries, knownEntry}
-use Rattle.program_refusals.proofs.Scans.{all-passes, all-fails, all-ends}
+use Rattle.meaning.specs.Program.{entries, entryKnown}
+use Rattle.program_refusals.proofs.Scans.{all-passes, scan-fails, scan-ends}
 use Rattle.program_refusals.proofs.scan.kinds_known.Statement.{statement}
 use Rattle.program_refusals.proofs.scan.kinds_known.Tie as tie
 
 abbrev Inv-loop : tie.InvT-loop
-Inv-loop s p₀ p-end p = all knownEntry (drop p (entries File s)) ≡ all knownEntry (entries File s)
+Inv-loop s p₀ p-end p = all entryKnown (drop p (entries File s)) ≡ all entryKnown (entries File s)
 
 abbrev μ-loop : tie.MeasureT-loop
 μ-loop s p₀ p-end p = p-end - p
@@ -25,11 +25,11 @@ loop-holds c = refl
 entry-at-requires : tie.Need-entry-at-requires Inv-loop μ-loop
 entry-at-requires c κs = search needs
 
-is-known-requires : tie.Need-is-known-requires Inv-loop μ-loop
-is-known-requires c κs = search needs
+entry-known-requires : tie.Need-entry-known-requires Inv-loop μ-loop
+entry-known-requires c κs = search needs
 
 returns : tie.Need-returns Inv-loop μ-loop
-returns c = search all-fails
+returns c = search scan-fails
 
 add-p : tie.Need-add-p Inv-loop μ-loop
 add-p c = search needs
@@ -41,7 +41,7 @@ loop-again : tie.Need-loop-again Inv-loop μ-loop
 loop-again c = search all-passes
 
 returns-2 : tie.Need-returns-2 Inv-loop μ-loop
-returns-2 c = search all-ends
+returns-2 c = search scan-ends
 
 pub kinds-known-spec : {M : Type 1} → statement M
 kinds-known-spec =
@@ -52,7 +52,7 @@ kinds-known-spec =
     parts-requires
     loop-holds
     entry-at-requires
-    is-known-requires
+    entry-known-requires
     returns
     add-p
     loop-less

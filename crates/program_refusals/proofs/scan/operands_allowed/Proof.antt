@@ -5,13 +5,13 @@ use lib.ListN.{drop}
 use borrow.Author.Needs.{needs}
 use Rattle.base.specs.Lists.{all}
 use Rattle.meaning.specs.declared.Form.the-variants.{File}
-use Rattle.meaning.specs.Program.{variables, clocks, entries, allowedEntry}
-use Rattle.program_refusals.proofs.Scans.{all-passes, all-fails, all-ends}
+use Rattle.meaning.specs.Program.{variables, clocks, entries, entryAllowed}
+use Rattle.program_refusals.proofs.Scans.{all-passes, scan-fails, scan-ends}
 use Rattle.program_refusals.proofs.scan.operands_allowed.Statement.{statement}
 use Rattle.program_refusals.proofs.scan.operands_allowed.Tie as tie
 
 abbrev Inv-loop : tie.InvT-loop
-Inv-loop s v k p₀ p-end p = all (allowedEntry v k) (drop p (entries File s)) ≡ all (allowedEntry (variables s) (clocks s)) (entries File s)
+Inv-loop s v k p₀ p-end p = all (entryAllowed v k) (drop p (entries File s)) ≡ all (entryAllowed (variables s) (clocks s)) (entries File s)
 
 abbrev μ-loop : tie.MeasureT-loop
 μ-loop s v k p₀ p-end p = p-end - p
@@ -31,11 +31,11 @@ loop-holds c = rw (c .before .before .variables .ensures, c .before .clocks .ens
 entry-at-requires : tie.Need-entry-at-requires Inv-loop μ-loop
 entry-at-requires c κs = search needs
 
-is-allowed-requires : tie.Need-is-allowed-requires Inv-loop μ-loop
-is-allowed-requires c κs = search needs
+entry-allowed-requires : tie.Need-entry-allowed-requires Inv-loop μ-loop
+entry-allowed-requires c κs = search needs
 
 returns : tie.Need-returns Inv-loop μ-loop
-returns c = search all-fails
+returns c = search scan-fails
 
 add-p : tie.Need-add-p Inv-loop μ-loop
 add-p c = search needs
@@ -47,7 +47,7 @@ loop-again : tie.Need-loop-again Inv-loop μ-loop
 loop-again c = search all-passes
 
 returns-2 : tie.Need-returns-2 Inv-loop μ-loop
-returns-2 c = search all-ends
+returns-2 c = search scan-ends
 
 pub operands-allowed-spec : {M : Type 1} → statement M
 operands-allowed-spec =
@@ -60,7 +60,7 @@ operands-allowed-spec =
     parts-requires
     loop-holds
     entry-at-requires
-    is-allowed-requires
+    entry-allowed-requires
     returns
     add-p
     loop-less

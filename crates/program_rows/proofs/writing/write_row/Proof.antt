@@ -8,20 +8,20 @@ use Rattle.meaning.specs.declared.Form.the-variants.{File}
 use Rattle.meaning.specs.Sizes.{numberLimit}
 use Rattle.meaning.specs.Kinds.{kindOf}
 use Rattle.meaning.specs.Program.{parts}
-use Rattle.program_rows.specs.Rows.{Forest, written, endOf}
-use Rattle.program_walk.proofs.Standing.{stands-below, walkable-held}
+use Rattle.program_rows.specs.Rows.{Forest, innerWritten, endOf}
+use Rattle.program_walk.proofs.Standing.{stands-below, walkable-readable}
 use Rattle.program_rows.proofs.Forests.{Rowing, rowing-first, rowing-stands, end-read, link-child, others-stand, row-done}
 use Rattle.program_rows.proofs.writing.write_row.Statement.{statement}
 use Rattle.program_rows.proofs.writing.write_row.Tie as tie
 
 abbrev Inv-loop : tie.InvT-loop
-Inv-loop s out₀ p part due₀ q₀ out due q = (length out ≡ length out₀) × (Rowing s (kindOf (part .kind)) p q due out (written s p out₀) (endOf s p) × Forest s out q)
+Inv-loop s out₀ p part remaining₀ q₀ out remaining q = (length out ≡ length out₀) × (Rowing s (kindOf (part .kind)) p q remaining out (innerWritten s p out₀) (endOf s p) × Forest s out q)
 
 abbrev μ-loop : tie.MeasureT-loop
-μ-loop s out₀ p part due₀ q₀ out due q = due
+μ-loop s out₀ p part remaining₀ q₀ out remaining q = remaining
 
 entry-at-requires : tie.Need-entry-at-requires Inv-loop μ-loop
-entry-at-requires c κs = walkable-held File _ _ (c .before .before .pre .0)
+entry-at-requires c κs = walkable-readable File _ _ (c .before .before .pre .0)
 
 arity-requires : tie.Need-arity-requires Inv-loop μ-loop
 arity-requires c κs = search needs
@@ -62,8 +62,8 @@ put-links-requires c κs =
     let here = rowing-stands _ _ _ _ _ _ _ _ (turn .before .loop .inv .1 .0) (turn .loop-test .taken) in
     omega (arith, stands-below File _ _ here, entry .before .before .before .pre .1 .0, turn .before .loop .inv .0)
 
-sub-due : tie.Need-sub-due Inv-loop μ-loop
-sub-due c = omega arith
+sub-remaining : tie.Need-sub-remaining Inv-loop μ-loop
+sub-remaining c = omega arith
 
 loop-less : tie.Need-loop-less Inv-loop μ-loop
 loop-less c = omega arith
@@ -117,7 +117,7 @@ write-row-spec =
     read-number-requires
     next-of-requires
     put-links-requires
-    sub-due
+    sub-remaining
     loop-less
     loop-again
     put-row-requires

@@ -1,6 +1,6 @@
 -- `links_of` meets its contract: the next of a part follows from the part around it.
 use borrow.Author.Needs.{needs}
-use Rattle.program_table.proofs.RowChecks.{parent-held, part-links}
+use Rattle.program_table.proofs.RowChecks.{parent-readable, part-links}
 use Rattle.program_table.proofs.checking.links_of.Statement.{statement}
 use Rattle.program_table.proofs.checking.links_of.Tie as tie
 
@@ -11,10 +11,10 @@ parent-of-requires : tie.Need-parent-of-requires
 parent-of-requires c κs = search needs
 
 entry-at-requires : tie.Need-entry-at-requires
-entry-at-requires c κs = let pre = c .before .before .before .pre in parent-held _ _ (pre .1 .1) (pre .0) (pre .1 .0) _ (c .parent-of .ensures)
+entry-at-requires c κs = let pre = c .before .before .before .pre in parent-readable _ _ (pre .1 .1) (pre .0) (pre .1 .0) _ (c .parent-of .ensures)
 
 end-at-requires-2 : tie.Need-end-at-requires-2
-end-at-requires-2 c κs = let pre = c .before .before .before .before .pre in parent-held _ _ (pre .1 .1) (pre .0) (pre .1 .0) _ (c .before .parent-of .ensures)
+end-at-requires-2 c κs = let pre = c .before .before .before .before .pre in parent-readable _ _ (pre .1 .1) (pre .0) (pre .1 .0) _ (c .before .parent-of .ensures)
 
 next-of-requires : tie.Need-next-of-requires
 next-of-requires c κs = search needs

@@ -1,5 +1,6 @@
 -- `extent` meets its contract: a walk of its MIR, by hand. The walker is taken apart, and `part_end` is called on the slice, the number and the levels.
--- The walker is Copy: what it owns is had twice, one copy is kept whole for the exit, and of the other what file owns goes to the callee, beside the lifetime's token, which comes back. What numbers own is made anew.
+-- The walker is Copy: what it owns is had twice, one copy is kept whole for the exit, and of the other what file owns
+-- goes to the callee, beside the lifetime's token, which comes back. What numbers own is made anew.
 use mathlib.Core.Path.{_≡_, refl}
 use Prim.Native.Nat.{ℕ, _<_, _^_}
 use mathlib.Core.List.{[], _∷_}
@@ -43,7 +44,7 @@ use denote.Triple.Clauses.{ensured, lasts}
 use Rattle.meaning.specs.declared.Form.the-variants.{File}
 use Rattle.program_walk.specs.Walk.{Long, anyEnd, partsEnd}
 use Rattle.program_walk.specs.declared.walker.Walker.{Walker}
-use Rattle.program_walk.proofs.Numbers.{width, number, Held}
+use Rattle.program_walk.proofs.Numbers.{width, number, FitsNumber}
 use Rattle.program_walk.proofs.Machine.{walkerVal, fileVal}
 use Rattle.program_walk.proofs.walker.Walker as T
 use Rattle.program_walk.proofs.walker.Walker.Laws as T′
@@ -102,7 +103,7 @@ module _ {M : Type 1} (𝓤 : URA M) (H : Heap 𝓤) (A : Atoms 𝓤) (W : Given
   asked lies = qed W ((‵ (flft κ q) ⊛ ‵ ftrue) ∷ ‵ (owns (ShrSlice (named 0) κ u8 ∷ number ∷ u8 ∷ []) (d .file, (d .next, (n, tt))) passed) ∷ []) ∵ says ! lies $ frame ! $ done !
 
   -- what the struct owns gives what the callee asks, and is kept
-  apart : Long (now (d .file)) → Held (d .next) → ent 𝓤 (onEntry 𝓤 H A extent.signature (κ, tt) (q, tt) (d, (n, tt)) at) (sep 𝓤 (PartEnd 𝓤 H A mem run .pre to) (sem 𝓤 H A Own))
+  apart : Long (now (d .file)) → FitsNumber (d .next) → ent 𝓤 (onEntry 𝓤 H A extent.signature (κ, tt) (q, tt) (d, (n, tt)) at) (sep 𝓤 (PartEnd 𝓤 H A mem run .pre to) (sem 𝓤 H A Own))
   apart lies fits =
       qed W ((‵ (flft κ q) ⊛ ‵ ftrue) ∷ ‵ (owns (B (κ, tt) ∷ u8 ∷ []) (d, (n, tt)) at) ∷ []) ∵
       move ! (1 ∷ []) $ fsplit ! $ move ! (1 ∷ []) $ drop ! $ use1 W (‵ Own ⊛ ‵ Own) (LL.copy D (T′.the-copy (namedLft 1 0 tt (κ, tt))) 𝓤 H A W .twice d (walkerVal d ∷ [])) $ split ! $

@@ -1,5 +1,7 @@
--- `root_extent` meets its contract: a walk of its MIR, by hand. The walker that `root` returns is held in a local and passed to `extent`. All that the proof knows of the two is that each meets its contract.
--- In a local of a body MIR erases the lifetime of the walker's type, so its value is shown to have the type at `erased`: what the walker owns does not say the lifetime's name. What a number owns is made anew for each call.
+-- `root_extent` meets its contract: a walk of its MIR, by hand. The walker that `root` returns is held in a local and
+-- passed to `extent`. All that the proof knows of the two is that each meets its contract.
+-- In a local of a body MIR erases the lifetime of the walker's type, so its value is shown to have the type at
+-- `erased`: what the walker owns does not say the lifetime's name. What a number owns is made anew for each call.
 use mathlib.Core.Path.{_≡_, refl, ap, _∙_, sym, subst}
 use Prim.Native.Nat.{ℕ, _<_, _^_}
 use mathlib.Core.List.{List, [], _∷_}

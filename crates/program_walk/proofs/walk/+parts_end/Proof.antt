@@ -6,7 +6,7 @@ use mathlib.Core.Logic.{inl, inr, ⊎-elim}
 use borrow.Author.Needs.{needs}
 use Rattle.meaning.specs.declared.Form.the-variants.{File}
 use Rattle.meaning.specs.Program.{parts}
-use Rattle.program_part.specs.declared.held.Sizes.{Sizes}
+use Rattle.program_part.specs.declared.layout.Sizes.{Sizes}
 use Rattle.program_walk.specs.Walk.{anyEnd, partsEnd}
 use Rattle.program_walk.proofs.Walking.{Walking, no-level, walk-starts, walk-beyond, walk-refused, walk-stuck, walk-on, walk-ends}
 use borrow.Fn.Kinds.{In}
@@ -14,7 +14,7 @@ use borrow.Fn.PlainCycle.{Measures, is, falls, and}
 use Rattle.program_walk.proofs.walk.parts_end.Reads as parts-end
 use Rattle.program_walk.proofs.walk.parts_end.Kinds as parts-end-kinds
 use Rattle.program_walk.proofs.walk.+parts_end.Lts-parts_end as parts-end-lts
-use Rattle.program_part.proofs.held.read_sizes.Reads as read-sizes-reads
+use Rattle.program_part.proofs.layout.read_sizes.Reads as read-sizes-reads
 use Rattle.program_part.proofs.kinds.children_of.Reads as children-of-reads
 use Rattle.program_walk.proofs.walker.entry_at.Reads as entry-at-reads
 use Rattle.program_walk.proofs.walk.+parts_end.{statement}
@@ -34,10 +34,10 @@ abbrev callees : ℕ → parts-end-lts.Claims
 callees t = (read-sizes-reads.Asked, read-sizes-reads.Learnt, entry-at-reads.Asked, entry-at-reads.Learnt, children-of-reads.Asked, children-of-reads.Learnt, parts-end-below t, parts-end.Post)
 
 abbrev parts-end-Inv-loop : parts-end-lts.InvT-loop
-parts-end-Inv-loop s p count levels sizes below due₀ q₀ due q = Walking File s anyEnd levels p q due (partsEnd File s anyEnd levels count p)
+parts-end-Inv-loop s p count levels sizes below remaining₀ q₀ remaining q = Walking File s anyEnd levels p q remaining (partsEnd File s anyEnd levels count p)
 
 abbrev parts-end-μ-loop : parts-end-lts.MeasureT-loop
-parts-end-μ-loop s p count levels sizes below due₀ q₀ due q = due
+parts-end-μ-loop s p count levels sizes below remaining₀ q₀ remaining q = remaining
 
 parts-end-read-sizes-requires : (t : ℕ) → parts-end-lts.Need-read-sizes-requires (callees t) (parts-end-at t) parts-end.Post parts-end-Inv-loop parts-end-μ-loop
 parts-end-read-sizes-requires t c κs = search needs
@@ -92,8 +92,8 @@ parts-end-returns-4 t c =
     let child = known .before .before .before in
     walk-stuck File _ anyEnd _ _ _ _ _ (child .before .before .before .before .before .loop .inv) (child .before .before .before .before .loop-test .taken) _ (child .before .before .before .before .before .before .read-sizes .ensures) (child .before .before .if1 .left) _ (child .before .entry-at .ensures) _ (child .children-of .ensures) _ (known .before .inside .given .1) _ (inl (c .before .before .before .if2 .taken, c .before .parts-end .ensures)) (c .if4 .taken)
 
-parts-end-sub-due : (t : ℕ) → parts-end-lts.Need-sub-due (callees t) (parts-end-at t) parts-end.Post parts-end-Inv-loop parts-end-μ-loop
-parts-end-sub-due t c = omega arith
+parts-end-sub-remaining : (t : ℕ) → parts-end-lts.Need-sub-remaining (callees t) (parts-end-at t) parts-end.Post parts-end-Inv-loop parts-end-μ-loop
+parts-end-sub-remaining t c = omega arith
 
 parts-end-loop-less : (t : ℕ) → parts-end-lts.Need-loop-less (callees t) (parts-end-at t) parts-end.Post parts-end-Inv-loop parts-end-μ-loop
 parts-end-loop-less t c = omega arith
@@ -127,7 +127,7 @@ pub +parts-end-spec : {M : Type 1} → statement M
     (parts-end-add-parts-end t)
     (parts-end-parts-end-requires t)
     (parts-end-returns-4 t)
-    (parts-end-sub-due t)
+    (parts-end-sub-remaining t)
     (parts-end-loop-less t)
     (parts-end-loop-again t)
     (parts-end-returns-5 t)

@@ -1,5 +1,8 @@
--- `entry_at` meets its contract: a walk of its MIR, by hand. The walker that one call returns is held in a local and passed to the next. All that the proof knows of `root`, `stepped` and `part` is that each meets its contract.
--- In a local of a body MIR erases the lifetime of the walker's type, so its value is shown to have the type at `erased`: what the walker owns does not say the lifetime's name. What a form and a number own is made anew for each call.
+-- `entry_at` meets its contract: a walk of its MIR, by hand. The walker that one call returns is held in a local and
+-- passed to the next. All that the proof knows of `root`, `stepped` and `part` is that each meets its contract.
+-- In a local of a body MIR erases the lifetime of the walker's type, so its value is shown to have the type at
+-- `erased`: what the walker owns does not say the lifetime's name. What a form and a number own is made anew for each
+-- call.
 use mathlib.Core.Path.{_≡_, refl, ap, _∙_, sym, subst}
 use Prim.Native.Nat.{ℕ}
 use mathlib.Core.List.{List, [], _∷_}
@@ -38,7 +41,7 @@ use denote.Triple.Walked.{says, needs, Stays, stay-none, stay-none-slice, walkOf
 use denote.Exit.{yes}
 use denote.Triple.Clauses.{ensured, lasts}
 use Rattle.meaning.specs.Program.{entryAt}
-use Rattle.program_part.specs.Held.{Held as Lies}
+use Rattle.program_part.specs.Readable.{Readable as Lies}
 use Rattle.meaning.specs.declared.Form.{Form}
 use Rattle.meaning.specs.declared.Entry.{Entry}
 use Rattle.meaning.proofs.Form as F
@@ -46,7 +49,7 @@ use Rattle.meaning.proofs.Form.Laws as F′
 use Rattle.meaning.proofs.Entry as E
 use Rattle.meaning.proofs.Entry.Laws as E′
 use Rattle.program_walk.specs.declared.walker.Walker.{Walker}
-use Rattle.program_walk.proofs.Numbers.{width, number, Held}
+use Rattle.program_walk.proofs.Numbers.{width, number, FitsNumber}
 use Rattle.program_walk.proofs.walker.Walker as T
 use Rattle.program_walk.proofs.walker.Walker.Laws as T′
 use Rattle.program_walk.proofs.walker.root as root
@@ -128,7 +131,7 @@ module _ {M : Type 1} (𝓤 : URA M) (H : Heap 𝓤) (A : Atoms 𝓤) (W : Given
   abbrev to-stepped : Walker → Val → Stepped 𝓤 H A mem run .Ghost
   to-stepped w u = (((κ, tt), (q, tt), tt, (w, (p, tt)), (u ∷ [], (vint width p ∷ [], tt))), tt)
 
-  goes-stepped : Held p → (w : Walker) (u : Val) → ent 𝓤 (⋆ 𝓤 H A (‵ (B (κ, tt) .own w (u ∷ [])) ∷ (‵ (flft κ q) ⊛ ‵ ftrue) ∷ [])) (Stepped 𝓤 H A mem run .pre (to-stepped w u))
+  goes-stepped : FitsNumber p → (w : Walker) (u : Val) → ent 𝓤 (⋆ 𝓤 H A (‵ (B (κ, tt) .own w (u ∷ [])) ∷ (‵ (flft κ q) ⊛ ‵ ftrue) ∷ [])) (Stepped 𝓤 H A mem run .pre (to-stepped w u))
   goes-stepped ok w u =
       qed W (‵ (B (κ, tt) .own w (u ∷ [])) ∷ (‵ (flft κ q) ⊛ ‵ ftrue) ∷ []) ∵ nothing ! $ owned ! number (Is number) (uint-makes 𝓤 H A W width) p _ (refl, ok) $ fjoin ! $
       move ! (1 ∷ 0 ∷ []) $ fjoin ! $ move ! (1 ∷ 0 ∷ []) $ join ! $ frame ! $ done !
@@ -161,7 +164,7 @@ module _ {M : Type 1} (𝓤 : URA M) (H : Heap 𝓤) (A : Atoms 𝓤) (W : Given
   lies-there : (w w₁ : Walker) → AtRoot w → SteppedFrom w w₁ → Lies form (now s) p → Lies form (now (w₁ .file)) (w₁ .next)
   lies-there w w₁ a b lies = subst (λ (i : ℕ). Lies form (now (w₁ .file)) i) (sym (b .1)) (subst (λ (x : RefT (List ℕ)). Lies form (now x) p) (sym (b .0 ∙ a .0)) lies)
 
-  exits : Is F.the-row form (f ∷ []) → Held p → (e : Entry) (u : Val) → e ≡ found → ent 𝓤 (⋆ 𝓤 H A (‵ (E.the-row .own e (u ∷ [])) ∷ (‵ (flft κ q) ⊛ ‵ ftrue) ∷ ‵ Own ∷ [])) (Post u)
+  exits : Is F.the-row form (f ∷ []) → FitsNumber p → (e : Entry) (u : Val) → e ≡ found → ent 𝓤 (⋆ 𝓤 H A (‵ (E.the-row .own e (u ∷ [])) ∷ (‵ (flft κ q) ⊛ ‵ ftrue) ∷ ‵ Own ∷ [])) (Post u)
   exits is-form ok e u is =
       qed W (‵ (E.the-row .own e (u ∷ [])) ∷ (‵ (flft κ q) ⊛ ‵ ftrue) ∷ ‵ Own ∷ []) ∵
       suffices ! _ (ends-at 𝓤 H A entry-at.ended stayed (entry-at.clauses 𝓤 H A mem run) W (((κ, tt), (q, tt), tt, (s, (form, (p, tt))), at), tt) u e (tt, (tt, (tt, tt))) (tt, (tt, (tt, tt)))) $ says ! is $
@@ -169,7 +172,7 @@ module _ {M : Type 1} (𝓤 : URA M) (H : Heap 𝓤) (A : Atoms 𝓤) (W : Given
       move ! (2 ∷ 0 ∷ []) $ fjoin ! $ frame ! $ done !
 
   module _ (C : Calls 𝓤 H) (Λ : Loops 𝓤 H) (fm : FmC 𝓤 H (W .laws) C) (known-root : Triple 𝓤 (C #program-walk·walker·root) (Root 𝓤 H A mem run)) (known-stepped : Triple 𝓤 (C #program-walk·walker·stepped) (Stepped 𝓤 H A mem run)) (known-part : Triple 𝓤 (C #program-walk·walker·part) (Part 𝓤 H A mem run)) where
-    walk : Lies form (now s) p → Is (ShrSlice (named 0) κ u8) s (v ∷ []) → Is F.the-row form (f ∷ []) → Held p → ent 𝓤 (onEntry 𝓤 H A entry-at.signature (κ, tt) (q, tt) (s, (form, (p, tt))) at) (WpFn 𝓤 H C Λ code.function (v ∷ f ∷ vint width p ∷ []) Post)
+    walk : Lies form (now s) p → Is (ShrSlice (named 0) κ u8) s (v ∷ []) → Is F.the-row form (f ∷ []) → FitsNumber p → ent 𝓤 (onEntry 𝓤 H A entry-at.signature (κ, tt) (q, tt) (s, (form, (p, tt))) at) (WpFn 𝓤 H C Λ code.function (v ∷ f ∷ vint width p ∷ []) Post)
     walk lies is-s is-form ok =
         qed W (raw (onEntry 𝓤 H A entry-at.signature (κ, tt) (q, tt) (s, (form, (p, tt))) at) ∷ []) ∵ enter ! C Λ code.function (v ∷ f ∷ vint width p ∷ []) _ $
         alloc1 ! (λ l₀. alloc1 ! (λ l₁. alloc1 ! (λ l₂. alloc1 ! (λ l₃. alloc1 ! (λ l₄. alloc1 ! (λ l₅. alloc0 ! $ params1 ! $

@@ -1,5 +1,6 @@
 -- `part` meets its contract: a walk of its MIR, by hand. The walker is taken apart, and `read_entry` is called on the slice, the form and the number.
--- The walker is Copy: what it owns is had twice, one copy is kept whole for the exit, and of the other what file owns goes to the callee, beside the lifetime's token, which comes back. What a form and a number own is made anew.
+-- The walker is Copy: what it owns is had twice, one copy is kept whole for the exit, and of the other what file owns
+-- goes to the callee, beside the lifetime's token, which comes back. What a form and a number own is made anew.
 use mathlib.Core.Path.{_≡_, refl}
 use mathlib.Core.List.{[], _∷_}
 use lib.Dec.{T as Holds}
@@ -41,11 +42,11 @@ use denote.Triple.Walked.{says, needs, Stays, stay-none, walkOf, goes-none, Walk
 use denote.Exit.{yes}
 use denote.Triple.Clauses.{ensured, lasts}
 use Rattle.meaning.specs.Program.{entryAt}
-use Rattle.program_part.specs.Held.{Held as Lies}
+use Rattle.program_part.specs.Readable.{Readable as Lies}
 use Rattle.meaning.specs.declared.Form.{Form}
 use Rattle.meaning.specs.declared.Entry.{Entry}
 use Rattle.program_walk.specs.declared.walker.Walker.{Walker}
-use Rattle.program_walk.proofs.Numbers.{width, number, Held}
+use Rattle.program_walk.proofs.Numbers.{width, number, FitsNumber}
 use Rattle.program_walk.proofs.Machine.{walkerVal, fileVal, formVal}
 use Rattle.program_walk.proofs.walker.Walker as T
 use Rattle.program_walk.proofs.walker.Walker.Laws as T′
@@ -53,10 +54,10 @@ use Rattle.meaning.proofs.Form as F
 use Rattle.meaning.proofs.Form.Laws as F′
 use Rattle.meaning.proofs.Entry as E
 use Rattle.meaning.proofs.Entry.Laws as E′
-use Rattle.program_part.proofs.held.read_entry as entry
-use Rattle.program_part.proofs.held.read_entry.Symbol as entry-def
-use Rattle.program_part.proofs.held.read_entry.Symbol.{name as #program-part·held·read-entry}
-use Rattle.program_part.proofs.held.read_entry.Met as entry-thm
+use Rattle.program_part.proofs.layout.read_entry as entry
+use Rattle.program_part.proofs.layout.read_entry.Symbol as entry-def
+use Rattle.program_part.proofs.layout.read_entry.Symbol.{name as #program-part·layout·read-entry}
+use Rattle.program_part.proofs.layout.read_entry.Met as entry-thm
 use Rattle.program_walk.proofs.walker.part.Key.{name as #program-walk·walker·part}
 use Rattle.program_walk.proofs.walker.part as part
 use Rattle.program_walk.proofs.walker.part.Statement as stated
@@ -108,7 +109,7 @@ module _ {M : Type 1} (𝓤 : URA M) (H : Heap 𝓤) (A : Atoms 𝓤) (W : Given
   asked lies = qed W ((‵ (flft κ q) ⊛ ‵ ftrue) ∷ ‵ (owns (ShrSlice (named 0) κ u8 ∷ F.the-row ∷ number ∷ []) (d .file, (form, (d .next, tt))) passed) ∷ []) ∵ says ! lies $ frame ! $ done !
 
   -- what the struct owns gives what the callee asks, and is kept
-  apart : Lies form (now (d .file)) (d .next) → Held (d .next) → Is F.the-row form (formVal form ∷ []) → ent 𝓤 (onEntry 𝓤 H A part.signature (κ, tt) (q, tt) (d, (form, tt)) at) (sep 𝓤 (ReadEntry 𝓤 H A mem run .pre to) (sem 𝓤 H A Own))
+  apart : Lies form (now (d .file)) (d .next) → FitsNumber (d .next) → Is F.the-row form (formVal form ∷ []) → ent 𝓤 (onEntry 𝓤 H A part.signature (κ, tt) (q, tt) (d, (form, tt)) at) (sep 𝓤 (ReadEntry 𝓤 H A mem run .pre to) (sem 𝓤 H A Own))
   apart lies fits is-form =
       qed W ((‵ (flft κ q) ⊛ ‵ ftrue) ∷ ‵ (owns (B (κ, tt) ∷ F.the-row ∷ []) (d, (form, tt)) at) ∷ []) ∵
       move ! (1 ∷ []) $ fsplit ! $ move ! (1 ∷ []) $ drop ! $ use1 W (‵ Own ⊛ ‵ Own) (LL.copy D (T′.the-copy (namedLft 1 0 tt (κ, tt))) 𝓤 H A W .twice d (walkerVal d ∷ [])) $ split ! $
@@ -127,7 +128,7 @@ module _ {M : Type 1} (𝓤 : URA M) (H : Heap 𝓤) (A : Atoms 𝓤) (W : Given
       suffices ! _ (ends-at 𝓤 H A part.ended stayed (part.clauses 𝓤 H A mem run) W (((κ, tt), (q, tt), tt, (d, (form, tt)), at), tt) u r (tt, (tt, tt)) (tt, (tt, tt))) $ says ! e $
       move ! (1 ∷ []) $ frame ! $ nothing ! $ owned ! F.the-row (Is F.the-row) (EL.makes F.the-type F′.the-plain 𝓤 H A) form _ is-form $ fjoin ! $ move ! (2 ∷ 0 ∷ []) $ fjoin ! $ frame ! $ done !
 
-  module _ (C : Calls 𝓤 H) (Λ : Loops 𝓤 H) (fm : FmC 𝓤 H (W .laws) C) (known : Triple 𝓤 (C #program-part·held·read-entry) (ReadEntry 𝓤 H A mem run)) where
+  module _ (C : Calls 𝓤 H) (Λ : Loops 𝓤 H) (fm : FmC 𝓤 H (W .laws) C) (known : Triple 𝓤 (C #program-part·layout·read-entry) (ReadEntry 𝓤 H A mem run)) where
     walk : Lies form (now (d .file)) (d .next) → Holds (hasTy (T′.mir (named 0)) (walkerVal d)) × WT (walkerVal d) → Is F.the-row form (formVal form ∷ []) → ent 𝓤 (onEntry 𝓤 H A part.signature (κ, tt) (q, tt) (d, (form, tt)) at) (WpFn 𝓤 H C Λ code.function (walkerVal d ∷ formVal form ∷ []) Post)
     walk lies wt is-form =
         qed W (raw (onEntry 𝓤 H A part.signature (κ, tt) (q, tt) (d, (form, tt)) at) ∷ []) ∵ enter ! C Λ code.function (walkerVal d ∷ formVal form ∷ []) _ $
@@ -145,13 +146,13 @@ module _ {M : Type 1} (𝓤 : URA M) (H : Heap 𝓤) (A : Atoms 𝓤) (W : Given
         move ! (11 ∷ 12 ∷ []) $ free1 ! $ move ! (9 ∷ 10 ∷ []) $ free1 ! $ move ! (7 ∷ 8 ∷ []) $ free1 ! $ move ! (5 ∷ 6 ∷ []) $ free1 ! $ move ! (3 ∷ 4 ∷ []) $ free1 ! $ free0 ! $ by ! (exits is-form r u e))))))))))
 
 module _ {M : Type 1} (𝓤 : URA M) (H : Heap 𝓤) (A : Atoms 𝓤) (W : Given 𝓤 H A) (mem : Memory → SProp 𝓤) (run : Routine → Fun 𝓤) where
-  part-walks : (C : Calls 𝓤 H) (Λ : Loops 𝓤 H) → FmC 𝓤 H (W .laws) C → Triple 𝓤 (C #program-part·held·read-entry) (ReadEntry 𝓤 H A mem run)
+  part-walks : (C : Calls 𝓤 H) (Λ : Loops 𝓤 H) → FmC 𝓤 H (W .laws) C → Triple 𝓤 (C #program-part·layout·read-entry) (ReadEntry 𝓤 H A mem run)
       → Walks 𝓤 H A part.ended stayed (WpFn 𝓤 H C Λ code.function) (part.clauses 𝓤 H A mem run)
   part-walks C Λ fm known = walked 𝓤 H A part.ended stayed (part.clauses 𝓤 H A mem run) (WpFn 𝓤 H C Λ code.function) (λ κs. (LL.vals (T.the-type (namedLft 1 0 tt κs)) (T′.the-laws (namedLft 1 0 tt κs)), (EL.vals F.the-type F′.the-laws, tt))) (λ κs. (LL.tells (T.the-type (namedLft 1 0 tt κs)) (T′.the-laws (namedLft 1 0 tt κs)), (EL.tells F.the-type F′.the-laws, tt)))
       (λ κs qs bounds a g are. needs 𝓤 (Lies (a .1 .0) (now (a .0 .file)) (a .0 .next)) _ (λ lies. walk 𝓤 H A W mem run (κs .0) (qs .0) (a .0) (a .1 .0) C Λ fm known lies (LL.lawful (T.the-type (namedLft 1 0 tt κs)) (T′.the-laws (namedLft 1 0 tt κs)) 𝓤 H A W .typed (a .0) _ (are .0) .0) (are .1 .0)))
 
 part-meets : {M : Type 1} (𝓤 : URA M) (H : Heap 𝓤) (A : Atoms 𝓤) (W : Given 𝓤 H A) (mem : Memory → SProp 𝓤) (run : Routine → Fun 𝓤) (𝓣 : Tables 𝓤 H)
-    → Triple 𝓤 (𝓣 .C #program-part·held·read-entry) (ReadEntry 𝓤 H A mem run)
+    → Triple 𝓤 (𝓣 .C #program-part·layout·read-entry) (ReadEntry 𝓤 H A mem run)
     → Meets 𝓤 H A part.signature (WpFn 𝓤 H (𝓣 .C) (𝓣 .Λ) code.function) (part.spec 𝓤 H A mem run)
 part-meets 𝓤 H A W mem run 𝓣 known-entry = walk-meets 𝓤 H A part.ended stayed W (goes-none 𝓤 H A W 1 B yes (λ κs x f. refl), (goes-none 𝓤 H A W 1 (λ _. F.the-row) yes (λ κs x f. refl), tt)) (part.clauses 𝓤 H A mem run) (WpFn 𝓤 H (𝓣 .C) (𝓣 .Λ) code.function) (WpFn-mono 𝓤 H (W .laws) 𝓣 code.function)
     (part-walks 𝓤 H A W mem run (𝓣 .C) (𝓣 .Λ) (fmOf 𝓤 H (W .laws) 𝓣) known-entry)
@@ -162,4 +163,4 @@ part-spec 𝓤 H 𝓜 𝓖 𝓡 =
     entered 𝓤 H (tripleOf 𝓤 H (𝓖 .A) part.signature (part.spec 𝓤 H (𝓖 .A) (𝓜 .mem) (𝓡 .run)))
     (tables 𝓤 H 𝓜 𝓡 code.env .C) (tables 𝓤 H 𝓜 𝓡 code.env .Λ) #program-walk·walker·part code.function (code.unfolded 𝓤 H 𝓜 𝓡)
     (part-meets 𝓤 H (𝓖 .A) (givenOf 𝓤 H 𝓜 𝓖) (𝓜 .mem) (𝓡 .run) (tablesOf 𝓤 H 𝓜 (tables 𝓤 H 𝓜 𝓡 code.env))
-    (cited 𝓤 H (ReadEntry 𝓤 H (𝓖 .A) (𝓜 .mem) (𝓡 .run)) 𝓜 𝓡 code.env #program-part·held·read-entry entry-def.routine code.calls-program-part·held·read-entry (entry-thm.met 𝓤 H 𝓜 𝓖 𝓡)))
+    (cited 𝓤 H (ReadEntry 𝓤 H (𝓖 .A) (𝓜 .mem) (𝓡 .run)) 𝓜 𝓡 code.env #program-part·layout·read-entry entry-def.routine code.calls-program-part·layout·read-entry (entry-thm.met 𝓤 H 𝓜 𝓖 𝓡)))

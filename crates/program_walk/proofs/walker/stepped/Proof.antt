@@ -33,7 +33,7 @@ use denote.Triple.Table.{entered}
 use denote.Triple.Walked.{says, Stays, stay-none, walkOf, goes-none, Walks, ends-at, walked, walk-meets}
 use denote.Exit.{yes}
 use Rattle.program_walk.specs.declared.walker.Walker.{Walker}
-use Rattle.program_walk.proofs.Numbers.{width, number, Held}
+use Rattle.program_walk.proofs.Numbers.{width, number, FitsNumber}
 use Rattle.program_walk.proofs.walker.Walker as T
 use Rattle.program_walk.proofs.walker.Walker.Laws as T′
 use Rattle.program_walk.proofs.walker.stepped.Key.{name as #program-walk·walker·stepped}
@@ -48,7 +48,7 @@ B κs = T.the-row (namedLft 1 0 tt κs)
 abbrev stayed : Stays (stepped.ended .signature .params) (stepped.ended .kept)
 stayed = (stay-none B yes, (stay-none (λ _. number) yes, tt))
 
-module _ {M : Type 1} (𝓤 : URA M) (H : Heap 𝓤) (A : Atoms 𝓤) (W : Given 𝓤 H A) (mem : Memory → SProp 𝓤) (run : Routine → Fun 𝓤) (κ : Lft) (q : Share) (d : Walker) (n : ℕ) (ok : Held n) where
+module _ {M : Type 1} (𝓤 : URA M) (H : Heap 𝓤) (A : Atoms 𝓤) (W : Given 𝓤 H A) (mem : Memory → SProp 𝓤) (run : Routine → Fun 𝓤) (κ : Lft) (q : Share) (d : Walker) (n : ℕ) (ok : FitsNumber n) where
   abbrev mach : Val
   mach = T′.lowered d
 

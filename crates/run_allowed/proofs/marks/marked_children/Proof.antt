@@ -2,7 +2,7 @@
 use Prim.Native.Nat.{_-_, _≤_, _<_}
 use native.Mathlib.Omega.{arith}
 use borrow.Author.Needs.{needs}
-use Rattle.program_part.proofs.Places.{row-held}
+use Rattle.program_part.proofs.Places.{row-readable}
 use Rattle.run_allowed.proofs.Markings.{Counting, flag-small, count-starts, count-marked, count-held, count-later, count-next, count-ends}
 use Rattle.run_allowed.proofs.marks.marked_children.Statement.{statement}
 use Rattle.run_allowed.proofs.marks.marked_children.Tie as tie
@@ -14,7 +14,7 @@ abbrev μ-loop : tie.MeasureT-loop
 μ-loop t r p e n₀ q₀ n q = e - q
 
 end-at-requires : tie.Need-end-at-requires Inv-loop μ-loop
-end-at-requires c κs = search row-held
+end-at-requires c κs = search row-readable
 
 add-q : tie.Need-add-q Inv-loop μ-loop
 add-q c = omega (arith, c .before .before .shared-slice-known .given 0)

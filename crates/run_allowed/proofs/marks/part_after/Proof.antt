@@ -1,7 +1,7 @@
 -- `part_after` meets its contract: it tells the two cases of the definition apart.
 use native.Mathlib.Omega.{arith}
 use Rattle.run_record.proofs.Marks.{mark-inside}
-use Rattle.program_part.proofs.Places.{row-held}
+use Rattle.program_part.proofs.Places.{row-readable}
 use Rattle.run_allowed.proofs.Markings.{after-marked, after-unmarked}
 use Rattle.run_allowed.proofs.marks.part_after.Statement.{statement}
 use Rattle.run_allowed.proofs.marks.part_after.Tie as tie
@@ -13,7 +13,7 @@ add-result : tie.Need-add-result
 add-result c = omega (arith, c .before .before .before .shared-slice-known .given 0)
 
 end-at-requires : tie.Need-end-at-requires
-end-at-requires c κs = search row-held
+end-at-requires c κs = search row-readable
 
 returns : tie.Need-returns
 returns c = search after-marked

@@ -2,7 +2,7 @@
 use native.Mathlib.Omega.{arith}
 use borrow.Author.Needs.{needs}
 use Rattle.run_record.proofs.Marks.{mark-inside}
-use Rattle.program_part.proofs.Places.{row-held}
+use Rattle.program_part.proofs.Places.{row-readable}
 use Rattle.run_allowed.proofs.Markings.{inner-long, marked-allowed, unmarked-allowed}
 use Rattle.run_allowed.proofs.marks.part_allowed.Statement.{statement}
 use Rattle.run_allowed.proofs.marks.part_allowed.Tie as tie
@@ -11,7 +11,7 @@ is-marked-requires : tie.Need-is-marked-requires
 is-marked-requires c κs = search mark-inside
 
 entry-at-requires : tie.Need-entry-at-requires
-entry-at-requires c κs = search row-held
+entry-at-requires c κs = search row-readable
 
 marked-children-requires : tie.Need-marked-children-requires
 marked-children-requires c κs = search needs
@@ -23,7 +23,7 @@ add-any-marked : tie.Need-add-any-marked
 add-any-marked c = omega (arith, c .before .before .before .shared-slice-known .given 0)
 
 end-at-requires : tie.Need-end-at-requires
-end-at-requires c κs = search row-held
+end-at-requires c κs = search row-readable
 
 any-marked-requires : tie.Need-any-marked-requires
 any-marked-requires c κs = search inner-long

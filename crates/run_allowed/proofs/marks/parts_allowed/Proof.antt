@@ -4,7 +4,7 @@ use mathlib.Core.Path.{_≡_}
 use lib.ListN.{drop}
 use borrow.Author.Needs.{needs}
 use Rattle.meaning.specs.Record.{phaseOf, marksIn, partsAllowed}
-use Rattle.run_allowed.proofs.Markings.{parts-pass, parts-fail, parts-later, parts-end}
+use Rattle.run_allowed.proofs.Markings.{parts-allowed-pass, parts-fail, parts-later, parts-allowed-end}
 use Rattle.run_allowed.proofs.marks.parts_allowed.Statement.{statement}
 use Rattle.run_allowed.proofs.marks.parts_allowed.Tie as tie
 
@@ -36,10 +36,10 @@ loop-less : tie.Need-loop-less Inv-loop μ-loop
 loop-less c = let h : c .before .before .before .before .loop .p < c .part-after .result = search parts-later in search needs
 
 loop-again : tie.Need-loop-again Inv-loop μ-loop
-loop-again c = search parts-pass
+loop-again c = search parts-allowed-pass
 
 returns-2 : tie.Need-returns-2 Inv-loop μ-loop
-returns-2 c = search parts-end
+returns-2 c = search parts-allowed-end
 
 pub parts-allowed-spec : {M : Type 1} → statement M
 parts-allowed-spec =

@@ -7,7 +7,7 @@ use Rattle.meaning.specs.Record.{clocksAllowed}
 use Rattle.base.specs.Lists.{allFrom}
 use Rattle.run_allowed.specs.Places.{clockAt}
 use Rattle.base.proofs.Loops.{all-next, all-ends}
-use Rattle.run_allowed.proofs.Places.{clock-inside, clocks-made}
+use Rattle.run_allowed.proofs.Places.{clock-below-limit, clocks-checked}
 use Rattle.run_allowed.proofs.values.clocks_allowed.Statement.{statement}
 use Rattle.run_allowed.proofs.values.clocks_allowed.Tie as tie
 
@@ -21,10 +21,10 @@ clocks-requires : tie.Need-clocks-requires Inv-loop μ-loop
 clocks-requires c κs = search needs
 
 loop-holds : tie.Need-loop-holds Inv-loop μ-loop
-loop-holds c = search clocks-made
+loop-holds c = search clocks-checked
 
 clock-allowed-requires : tie.Need-clock-allowed-requires Inv-loop μ-loop
-clock-allowed-requires c κs = (search needs, search clock-inside)
+clock-allowed-requires c κs = (search needs, search clock-below-limit)
 
 add-c : tie.Need-add-c Inv-loop μ-loop
 add-c c = search needs

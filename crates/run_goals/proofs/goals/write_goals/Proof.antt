@@ -1,6 +1,6 @@
--- `write_goals` meets its contract: bytes that no GOAL names, and the values of all marked GOALs raised onto them.
+-- `write_goals` meets its contract: bytes that no GOAL names, and the values of all marked GOALs merged into them.
 use borrow.Author.Needs.{needs}
-use Rattle.run_goals.proofs.Raising.{goals-made}
+use Rattle.run_goals.proofs.Merging.{goals-made}
 use Rattle.run_goals.proofs.goals.write_goals.Statement.{statement}
 use Rattle.run_goals.proofs.goals.write_goals.Tie as tie
 
@@ -13,8 +13,8 @@ wide-requires c κs = search needs
 fill-requires : tie.Need-fill-requires
 fill-requires c κs = search needs
 
-raise-all-requires : tie.Need-raise-all-requires
-raise-all-requires c κs = search needs
+merge-all-requires : tie.Need-merge-all-requires
+merge-all-requires c κs = search needs
 
 same-length : tie.Need-same-length
 same-length c = search needs
@@ -29,6 +29,6 @@ write-goals-spec =
     variables-requires
     wide-requires
     fill-requires
-    raise-all-requires
+    merge-all-requires
     same-length
     returns)

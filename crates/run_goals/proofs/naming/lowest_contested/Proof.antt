@@ -3,7 +3,7 @@ use borrow.Author.Needs.{needs}
 use Prim.Native.Nat.{_-_}
 use mathlib.Core.Path.{_≡_}
 use Rattle.base.specs.Lists.{bytesAt}
-use Rattle.run_goals.specs.Raised.{lowestContested}
+use Rattle.run_goals.specs.Merged.{lowestContested}
 use Rattle.run_goals.proofs.Names.{name-found, name-passed, name-none, name-starts}
 use Rattle.run_goals.proofs.naming.lowest_contested.Statement.{statement}
 use Rattle.run_goals.proofs.naming.lowest_contested.Tie as tie

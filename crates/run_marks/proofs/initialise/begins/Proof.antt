@@ -1,15 +1,15 @@
 -- `begins` meets its contract: the kind of p's parent decides.
 use borrow.Author.Needs.{needs}
-use Rattle.program_part.proofs.Places.{row-held}
-use Rattle.run_marks.proofs.Initialising.{parent-held, begins-made}
+use Rattle.program_part.proofs.Places.{row-readable}
+use Rattle.run_marks.proofs.Initialising.{parent-row-readable, begins-made}
 use Rattle.run_marks.proofs.initialise.begins.Statement.{statement}
 use Rattle.run_marks.proofs.initialise.begins.Tie as tie
 
 parent-at-requires : tie.Need-parent-at-requires
-parent-at-requires c κs = search row-held
+parent-at-requires c κs = search row-readable
 
 entry-at-requires : tie.Need-entry-at-requires
-entry-at-requires c κs = search parent-held
+entry-at-requires c κs = search parent-row-readable
 
 begins-in-requires : tie.Need-begins-in-requires
 begins-in-requires c κs = search needs

@@ -4,14 +4,14 @@ use mathlib.Core.Path.{_≡_, refl, _∙_}
 use lib.ListN.{length}
 use lib.Seq.{sets}
 use borrow.Author.Needs.{needs}
-use Rattle.program_part.proofs.Places.{row-held}
-use Rattle.meaning.specs.Cycle.{freshFrom}
-use Rattle.run_marks.proofs.Initialising.{next-fits, turn-there, fresh-starts, fresh-next, fresh-ends}
+use Rattle.program_part.proofs.Places.{row-readable}
+use Rattle.meaning.specs.Cycle.{initialMarksFrom}
+use Rattle.run_marks.proofs.Initialising.{next-fits, turn-there, initial-starts, initial-next, initial-ends}
 use Rattle.run_marks.proofs.initialise.initialise.Statement.{statement}
 use Rattle.run_marks.proofs.initialise.initialise.Tie as tie
 
 abbrev Inv-loop : tie.InvT-loop
-Inv-loop t m₀ from q skip₀ p₀ p-end m skip p = (q < p) × ((length m ≡ length m₀) × (sets m (from + p) (freshFrom t p (p-end - p) skip) ≡ sets m₀ (from + p₀) (freshFrom t p₀ (p-end - p₀) skip₀)))
+Inv-loop t m₀ from q skip₀ p₀ p-end m skip p = (q < p) × ((length m ≡ length m₀) × (sets m (from + p) (initialMarksFrom t p (p-end - p) skip) ≡ sets m₀ (from + p₀) (initialMarksFrom t p₀ (p-end - p₀) skip₀)))
 
 abbrev μ-loop : tie.MeasureT-loop
 μ-loop t m₀ from q skip₀ p₀ p-end m skip p = p-end - p
@@ -29,13 +29,13 @@ add-p : tie.Need-add-p Inv-loop μ-loop
 add-p c = search (next-fits, needs)
 
 end-at-requires : tie.Need-end-at-requires Inv-loop μ-loop
-end-at-requires c κs = search row-held
+end-at-requires c κs = search row-readable
 
 loop-holds : tie.Need-loop-holds Inv-loop μ-loop
 loop-holds c = (search needs, (refl, refl))
 
-turn-requires : tie.Need-turn-requires Inv-loop μ-loop
-turn-requires c κs =
+initialise-step-requires : tie.Need-initialise-step-requires Inv-loop μ-loop
+initialise-step-requires c κs =
     let ended = c .before .before .before in
     let pre = ended .before .before .before .before .before .before .before .before .pre in
     (search needs, (search needs, (turn-there _ _ (pre .0) (pre .1 .0) _ _ (ended .end-at .ensures) (c .before .loop-test .taken), search needs)))
@@ -50,9 +50,9 @@ loop-again : tie.Need-loop-again Inv-loop μ-loop
 loop-again c = (
   search needs,
   (
-    c .before .before .turn .kept .1 .0 ∙ c .before .before .before .before .before .loop .inv .1 .0,
+    c .before .before .initialise-step .kept .1 .0 ∙ c .before .before .before .before .before .loop .inv .1 .0,
     let l = c .before .before .before .before in
-        fresh-next _ _ _ _ _ _ _ _ _ (l .loop-test .taken) (c .before .before .turn .ensures) (l .before .loop .inv .1 .1),
+        initial-next _ _ _ _ _ _ _ _ _ (l .loop-test .taken) (c .before .before .initialise-step .ensures) (l .before .loop .inv .1 .1),
   ),
 )
 
@@ -62,8 +62,8 @@ same-length c = c .before .loop .inv .1 .0 ∙ c .before .before .before .before
 returns : tie.Need-returns Inv-loop μ-loop
 returns c =
     let e = c .before .before in
-    fresh-ends _ _ _ _ _ _ _ (c .loop-test .left) (c .before .loop .inv .1 .1)
-    ∙ fresh-starts _ _ _ _ _ _ _ (e .before .before .before .before .index .ensures) (e .end-at .ensures) (e .before .before .before .store .ensures)
+    initial-ends _ _ _ _ _ _ _ (c .loop-test .left) (c .before .loop .inv .1 .1)
+    ∙ initial-starts _ _ _ _ _ _ _ (e .before .before .before .before .index .ensures) (e .end-at .ensures) (e .before .before .before .store .ensures)
 
 pub initialise-spec : {M : Type 1} → statement M
 initialise-spec =
@@ -77,7 +77,7 @@ initialise-spec =
     add-p
     end-at-requires
     loop-holds
-    turn-requires
+    initialise-step-requires
     add-p-2
     loop-less
     loop-again

@@ -1,7 +1,7 @@
--- `follower` meets its contract: each fate has its arm.
+-- `follower` meets its contract: each transition has its arm.
 use borrow.Author.Needs.{needs}
-use Rattle.program_part.proofs.Places.{row-held}
-use Rattle.run_marks.proofs.Settling.{next-fits, second-held, first-follows, second-follows}
+use Rattle.program_part.proofs.Places.{row-readable}
+use Rattle.run_marks.proofs.Settling.{next-part-fits, second-held, first-follows, second-follows}
 use Rattle.run_marks.proofs.settled.follower.Statement.{statement}
 use Rattle.run_marks.proofs.settled.follower.Tie as tie
 
@@ -12,19 +12,19 @@ enum-told-2 : tie.Need-enum-told-2
 enum-told-2 c = search needs
 
 next-at-requires : tie.Need-next-at-requires
-next-at-requires c κs = search row-held
+next-at-requires c κs = search row-readable
 
 enum-told-3 : tie.Need-enum-told-3
 enum-told-3 c = search needs
 
 add-result : tie.Need-add-result
-add-result c = search (next-fits, needs)
+add-result c = search (next-part-fits, needs)
 
 enum-told-4 : tie.Need-enum-told-4
 enum-told-4 c = search needs
 
 add-end-at : tie.Need-add-end-at
-add-end-at c = search (next-fits, needs)
+add-end-at c = search (next-part-fits, needs)
 
 end-at-requires : tie.Need-end-at-requires
 end-at-requires c κs = search second-held

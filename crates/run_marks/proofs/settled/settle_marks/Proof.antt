@@ -21,8 +21,8 @@ loop-holds c = (search needs, search settle-starts)
 sub-p : tie.Need-sub-p Inv-loop μ-loop
 sub-p c = search needs
 
-turn-requires : tie.Need-turn-requires Inv-loop μ-loop
-turn-requires c κs = (search needs, (search needs, (search needs, (search standing-room, search needs))))
+settle-part-requires : tie.Need-settle-part-requires Inv-loop μ-loop
+settle-part-requires c κs = (search needs, (search needs, (search needs, (search standing-room, search needs))))
 
 loop-less : tie.Need-loop-less Inv-loop μ-loop
 loop-less c = search needs
@@ -45,7 +45,7 @@ settle-marks-spec =
     parts-requires
     loop-holds
     sub-p
-    turn-requires
+    settle-part-requires
     loop-less
     loop-again
     same-length

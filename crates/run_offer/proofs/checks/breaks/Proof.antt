@@ -1,13 +1,13 @@
 -- `breaks` meets its contract: of a marked MAINTAIN the condition decides.
 use borrow.Author.Needs.{needs}
-use Rattle.program_part.proofs.Places.{row-held}
+use Rattle.program_part.proofs.Places.{row-readable}
 use Rattle.run_record.proofs.Marks.{mark-inside}
 use Rattle.run_offer.proofs.Checking.{holds-out, maintained, breaks-if}
 use Rattle.run_offer.proofs.checks.breaks.Statement.{statement}
 use Rattle.run_offer.proofs.checks.breaks.Tie as tie
 
 entry-at-requires : tie.Need-entry-at-requires
-entry-at-requires c κs = search row-held
+entry-at-requires c κs = search row-readable
 
 is-marked-requires : tie.Need-is-marked-requires
 is-marked-requires c κs = search mark-inside

@@ -6,7 +6,7 @@ use lib.ListN.{length}
 use lib.Seq.{sets}
 use Rattle.meaning.specs.Record.{marksPlace}
 use Rattle.meaning.specs.Cycle.{checkedMarks}
-use Rattle.run_offer.specs.Turns.{checkedRest}
+use Rattle.run_offer.specs.CheckSteps.{checkedRest}
 use Rattle.run_offer.proofs.Checking.{checked-start, checked-step, checked-end}
 use Rattle.run_offer.proofs.checks.check_marks.Statement.{statement}
 use Rattle.run_offer.proofs.checks.check_marks.Tie as tie
@@ -23,8 +23,8 @@ parts-requires c κs = search needs
 loop-holds : tie.Need-loop-holds Inv-loop μ-loop
 loop-holds c = (refl, search checked-start)
 
-turn-requires : tie.Need-turn-requires Inv-loop μ-loop
-turn-requires c κs = search needs
+check-part-requires : tie.Need-check-part-requires Inv-loop μ-loop
+check-part-requires c κs = search needs
 
 add-p : tie.Need-add-p Inv-loop μ-loop
 add-p c = search needs
@@ -34,11 +34,11 @@ loop-less c = search needs
 
 loop-again : tie.Need-loop-again Inv-loop μ-loop
 loop-again c = (
-  c .before .before .turn .kept .1 .0 ∙ c .before .before .before .before .before .loop .inv .0,
+  c .before .before .check-part .kept .1 .0 ∙ c .before .before .before .before .before .loop .inv .0,
   let a = c .before .before in
       let l = a .before .before in
       let f = l .before .before in
-      checked-step _ _ _ _ _ _ _ _ _ (f .before .before .before .pre .0) (f .parts .ensures) (l .loop-test .taken) (a .turn .ensures .1) (a .turn .ensures .0) (l .before .loop .inv .1),
+      checked-step _ _ _ _ _ _ _ _ _ (f .before .before .before .pre .0) (f .parts .ensures) (l .loop-test .taken) (a .check-part .ensures .1) (a .check-part .ensures .0) (l .before .loop .inv .1),
 )
 
 same-length : tie.Need-same-length Inv-loop μ-loop
@@ -55,7 +55,7 @@ check-marks-spec =
     μ-loop
     parts-requires
     loop-holds
-    turn-requires
+    check-part-requires
     add-p
     loop-less
     loop-again

@@ -1,6 +1,6 @@
 -- `pending_after` meets its contract: a mark that is not set changes nothing, a CHOICE gives its end, and any other part 0.
 use borrow.Author.Needs.{needs}
-use Rattle.program_part.proofs.Places.{row-held}
+use Rattle.program_part.proofs.Places.{row-readable}
 use Rattle.run_settle.proofs.Deciding.{pending-kept, pending-choice, pending-none}
 use Rattle.run_settle.proofs.works.pending_after.Statement.{statement}
 use Rattle.run_settle.proofs.works.pending_after.Tie as tie
@@ -15,10 +15,10 @@ returns : tie.Need-returns
 returns c = search pending-kept
 
 entry-at-requires : tie.Need-entry-at-requires
-entry-at-requires c κs = search row-held
+entry-at-requires c κs = search row-readable
 
 end-at-requires : tie.Need-end-at-requires
-end-at-requires c κs = search row-held
+end-at-requires c κs = search row-readable
 
 returns-2 : tie.Need-returns-2
 returns-2 c = search pending-choice

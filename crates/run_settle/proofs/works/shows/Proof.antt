@@ -1,12 +1,12 @@
 -- `shows` meets its contract: the tests of the code are those of the definition.
 use borrow.Author.Needs.{needs}
-use Rattle.program_part.proofs.Places.{row-held}
+use Rattle.program_part.proofs.Places.{row-readable}
 use Rattle.run_settle.proofs.Deciding.{shows-made}
 use Rattle.run_settle.proofs.works.shows.Statement.{statement}
 use Rattle.run_settle.proofs.works.shows.Tie as tie
 
 entry-at-requires : tie.Need-entry-at-requires
-entry-at-requires c κs = search row-held
+entry-at-requires c κs = search row-readable
 
 index-requires : tie.Need-index-requires
 index-requires c κs = search needs

@@ -1,0 +1,15 @@
+-- `empty_allowed` meets its contract: the tests of the code are those of the definition.
+use borrow.Author.Needs.{needs}
+use Rattle.meaning.specs.Kinds.{emptyAllowed}
+use Rattle.program_part.proofs.kinds.empty_allowed.Statement.{statement}
+use Rattle.program_part.proofs.kinds.empty_allowed.Tie as tie
+
+value-requires : tie.Need-value-requires
+value-requires c κs = search needs
+
+returns : tie.Need-returns
+unfolding emptyAllowed
+returns c = cc
+
+pub empty-allowed-spec : {M : Type 1} → statement M
+empty-allowed-spec = tie.close (tie.spec value-requires returns)

@@ -1,0 +1,30 @@
+-- `kind_place` meets its contract: each form has its own place.
+use borrow.Author.Needs.{needs}
+use Rattle.program_part.proofs.layout.kind_place.Statement.{statement}
+use Rattle.program_part.proofs.layout.kind_place.Tie as tie
+
+enum-told : tie.Need-enum-told
+enum-told c = search needs
+
+index-requires : tie.Need-index-requires
+index-requires c κs = search needs
+
+add-result : tie.Need-add-result
+add-result c = search needs
+
+enum-told-2 : tie.Need-enum-told-2
+enum-told-2 c = search needs
+
+row-place-requires : tie.Need-row-place-requires
+row-place-requires c κs = search needs
+
+returns : tie.Need-returns
+returns c = cc
+
+returns-2 : tie.Need-returns-2
+returns-2 c = cc
+
+pub kind-place-spec : {M : Type 1} → statement M
+kind-place-spec =
+    tie.close
+    (tie.spec enum-told index-requires add-result enum-told-2 row-place-requires returns returns-2)

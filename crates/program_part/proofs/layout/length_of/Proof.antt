@@ -1,0 +1,53 @@
+-- `length_of` meets its contract: each form has its own length.
+use borrow.Author.Needs.{needs}
+use Rattle.program_part.proofs.layout.length_of.Statement.{statement}
+use Rattle.program_part.proofs.layout.length_of.Tie as tie
+
+enum-told : tie.Need-enum-told
+enum-told c = search needs
+
+add-result : tie.Need-add-result
+add-result c = search needs
+
+index-requires : tie.Need-index-requires
+index-requires c κs = search needs
+
+mul-result : tie.Need-mul-result
+mul-result c = search needs
+
+add-result-2 : tie.Need-add-result-2
+add-result-2 c = search needs
+
+enum-told-2 : tie.Need-enum-told-2
+enum-told-2 c = search needs
+
+index-requires-2 : tie.Need-index-requires-2
+index-requires-2 c κs = search needs
+
+mul-result-2 : tie.Need-mul-result-2
+mul-result-2 c = search needs
+
+add-result-3 : tie.Need-add-result-3
+add-result-3 c = search needs
+
+returns : tie.Need-returns
+returns c = cc
+
+returns-2 : tie.Need-returns-2
+returns-2 c = cc
+
+pub length-of-spec : {M : Type 1} → statement M
+length-of-spec =
+    tie.close
+    (tie.spec
+    enum-told
+    add-result
+    index-requires
+    mul-result
+    add-result-2
+    enum-told-2
+    index-requires-2
+    mul-result-2
+    add-result-3
+    returns
+    returns-2)
