@@ -1,3 +1,4 @@
 pub mod Lists
 pub mod Stores
 pub mod Loops
+pub mod Facts

@@ -3,15 +3,16 @@ use Prim.Native.Nat.{ℕ, zero, suc, _+_, _-_, _*_, _≤_, _<_, min}
 use native.Mathlib.Nat.{zero-add, add-zero, not-suc-le-zero, le-of-suc-le-suc, eq-or-lt-of-le, eq-zero-or-pos}
 use native.Mathlib.Omega.{arith}
 use mathlib.Core.Path.{_≡_, refl, sym, _∙_, subst}
-use mathlib.Core.Logic.{_↔_, _≢_, _⊎_, inl, inr, Iff·rfl, Iff·trans, Iff·and}
+use mathlib.Core.Logic.{_↔_, _≢_, _⊎_, inl, inr, Iff·trans}
 use mathlib.Core.Bool.{Bool, true, false, cond, not, _&&_, _||_, and-eq-true-iff, false≢true}
 use mathlib.Core.List.{List, [], _∷_, map}
 use lib.Dec.{eqb, leb}
 use lib.ListN.{length, getD, take, drop, length-take, length-drop}
 use lib.Seq.{getD-take, getD-drop}
-use borrow.Author.Tests.{leb-true, leb-false, le-leb, eqb-true, eq-eqb, eqb-false, ne-eqb}
-use Rattle.base.specs.Lists.{sum, all, any, tabulate, flag, bytesAt}
-use Rattle.base.proofs.Lists.{and-left, and-right, length-tabulate, getD-tabulate}
+use borrow.Author.Tests.{leb-true, leb-false, ne-eqb}
+use Rattle.base.specs.Lists.{sum, all, any, flag, bytesAt}
+use Rattle.base.proofs.Facts.{both, at-most, equal, by-number, unless, all-facts, all-below, getD-inside}
+use Rattle.base.proofs.Lists.{and-left, and-right}
 use Rattle.base.proofs.Stores.{length-bytes, getD-bytes}
 use Rattle.meaning.specs.Sizes.{maxParts, maxVariables, maxClocks, maxValue, timeWidth, noPart}
 use Rattle.meaning.specs.Kinds.{Kind, UNKNOWN, GOAL, START, WAIT, SEQ, PAR, MAINTAIN, CHOICE, REPEAT}
@@ -23,16 +24,7 @@ use Rattle.meaning.proofs.Trees.{All, part-ind, size-law}
 use Rattle.meaning.proofs.Tables.{table-held}
 use Rattle.meaning.proofs.Lies.{Lies, LieIn, own-row, own-kind, children-lie, first-lies, others-lie, root-lies}
 
--- Tests and the facts that they test
-both : {P Q : Type 0} (a b : Bool) → (a ≡ true) ↔ P → (b ≡ true) ↔ Q → ((a && b) ≡ true) ↔ (P × Q)
-both a b f g = Iff·trans (and-eq-true-iff a b) (Iff·and f g)
-
-at-most : (m x : ℕ) → (leb x m ≡ true) ↔ (x ≤ m)
-at-most m x = (leb-true x m, le-leb x m)
-
-equal : (n x : ℕ) → (eqb x n ≡ true) ↔ (x ≡ n)
-equal n x = (eqb-true x n, eq-eqb x n)
-
+-- a number is a mark where it is not 0
 more-than-zero : (x : ℕ) → isZero (suc x) ≡ false
 more-than-zero x = ne-eqb (suc x) 0 (λ e. omega arith)
 
@@ -49,49 +41,6 @@ by-mark : (x : ℕ) (a b : Bool) → (cond (isMark x) a b ≡ true) ↔ ((0 < x 
 by-mark zero a b = (λ h. (λ l. absurd (omega arith), λ e. h), λ h. h .1 refl)
 by-mark (suc x) a b = rw (more-than-zero x) (λ h. (λ l. h, λ e. absurd (omega arith)), λ h. h .0 (omega arith))
 
--- one test where a number is the one named, another where it is not
-by-number : (x n : ℕ) (a b : Bool) → (cond (eqb x n) a b ≡ true) ↔ ((x ≡ n → a ≡ true) × (x ≢ n → b ≡ true))
-by-number x n a b = go (eqb x n) refl
-  where
-    go : (z : Bool) → eqb x n ≡ z → (cond z a b ≡ true) ↔ ((x ≡ n → a ≡ true) × (x ≢ n → b ≡ true))
-    go true e = (λ h. (λ k. h, λ k. absurd (k (eqb-true x n e))), λ h. h .0 (eqb-true x n e))
-    go false e = (λ h. (λ k. absurd (eqb-false x n e k), λ k. h), λ h. h .1 (eqb-false x n e))
-
--- a test that need not be passed where a number is the one named
-unless : {P : Type 0} (a : Bool) (x n : ℕ) → (a ≡ true) ↔ P → ((a || eqb x n) ≡ true) ↔ (x ≢ n → P)
-unless {P} a x n f = go a (eqb x n) refl f
-  where
-    go : (a z : Bool) → eqb x n ≡ z → (a ≡ true) ↔ P → ((a || z) ≡ true) ↔ (x ≢ n → P)
-    go true z e f = (λ h k. f .0 refl, λ h. refl)
-    go false true e f = (λ h k. absurd (k (eqb-true x n e)), λ h. refl)
-    go false false e f = (λ h k. f .0 h, λ h. f .1 (h (eqb-false x n e)))
-
--- a test that all elements of a list pass is passed at each index
-all-index : {A : Type 0} (d : A) (f : A → Bool) (xs : List A) → (all f xs ≡ true) ↔ ((i : ℕ) → i < length xs → f (getD xs i d) ≡ true)
-all-index {A} d f xs = (to xs, from xs)
-  where
-    to : (xs : List A) → all f xs ≡ true → (i : ℕ) → i < length xs → f (getD xs i d) ≡ true
-    to [] h i l = absurd (not-suc-le-zero l)
-    to (x ∷ xs) h zero l = and-left (f x) (all f xs) h
-    to (x ∷ xs) h (suc i) l = to xs (and-right (f x) (all f xs) h) i (le-of-suc-le-suc l)
-
-    from : (xs : List A) → ((i : ℕ) → i < length xs → f (getD xs i d) ≡ true) → all f xs ≡ true
-    from [] h = refl
-    from (x ∷ xs) h = rw (h 0 (omega arith)) (from xs (λ i l. h (suc i) (omega arith)))
-
--- the same, by the fact that it tests
-all-facts : (f : ℕ → Bool) (F : ℕ → Type 0) → ((x : ℕ) → (f x ≡ true) ↔ F x) → (xs : List ℕ) (n : ℕ) → length xs ≡ n → (all f xs ≡ true) ↔ ((i : ℕ) → i < n → F (getD xs i 0))
-all-facts f F e xs n k =
-    (λ h i l. e (getD xs i 0) .0 (all-index 0 f xs .0 h i (omega arith)), λ h. all-index 0 f xs .1 (λ i l. e (getD xs i 0) .1 (h i (omega arith))))
-
--- a test that the numbers below n pass
-all-below : (f : ℕ → Bool) (n : ℕ) → (all f (tabulate (λ c. c) 0 n) ≡ true) ↔ ((c : ℕ) → c < n → f c ≡ true)
-all-below f n =
-    let k : length (tabulate (λ c. c) 0 n) ≡ n = length-tabulate (λ c. c) 0 n in
-    let at : (c : ℕ) → c < n → getD (tabulate (λ c. c) 0 n) c 0 ≡ c = λ c l. getD-tabulate (λ c. c) 0 n c 0 l ∙ zero-add c in
-    let facts = all-facts f (λ c. f c ≡ true) (λ c. Iff·rfl) (tabulate (λ c. c) 0 n) n k in
-    (λ h c l. rw (at c l) at (facts .0 h c l), λ h. facts .1 (λ c l. rw (at c l) (h c l)))
-
 -- nothing is marked where all marks are 0
 none-marked : (ms : List ℕ) → not (any isMark ms) ≡ all isZero ms
 none-marked [] = refl
@@ -100,12 +49,6 @@ none-marked (m ∷ ms) = go (isZero m) (none-marked ms)
     go : (z : Bool) → not (any isMark ms) ≡ all isZero ms → not (not z || any isMark ms) ≡ (z && all isZero ms)
     go true h = h
     go false h = refl
-
--- an element other than 0 stands inside its list
-getD-inside : (xs : List ℕ) (i : ℕ) → 0 < getD xs i 0 → i < length xs
-getD-inside [] i h = absurd (omega arith)
-getD-inside (x ∷ xs) zero h = omega arith
-getD-inside (x ∷ xs) (suc i) h = omega (arith, getD-inside xs i h)
 
 -- the entries from v on, of m that stand from place k on, are 0
 rest-at : (r : List ℕ) (k v m n : ℕ) → n ≡ m - v → (all isZero (bytesAt r (k + v) n) ≡ true) ↔ ((i : ℕ) → v ≤ i → i < m → getD r (k + i) 0 ≡ 0)

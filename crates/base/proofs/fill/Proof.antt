@@ -32,7 +32,10 @@ loop-less : tie.Need-loop-less Inv-loop μ-loop
 loop-less c = omega arith
 
 loop-again : tie.Need-loop-again Inv-loop μ-loop
-loop-again c = (c .before .before .store .kept .0 ∙ c .before .before .before .before .before .loop .inv .0, search fill-step)
+loop-again c =
+    let after-store = c .before .before in
+    let at-loop = after-store .before .before .before in
+    (after-store .store .kept .0 ∙ at-loop .loop .inv .0, search fill-step)
 
 same-length : tie.Need-same-length Inv-loop μ-loop
 same-length c = c .before .loop .inv .0

@@ -12,25 +12,37 @@ slice-aggregate-write-word : tie.Need-slice-aggregate-write-word
 slice-aggregate-write-word c = search needs
 
 write-word-requires : tie.Need-write-word-requires
-write-word-requires c κs = same-room _ (begun-done-text (c .before .before .enum-told .given .1)) (c .before .before .before .before .before .pre)
+write-word-requires c κs =
+    let after-enum-told = c .before .before in
+    let start = after-enum-told .before .before .before in
+    same-room _ (begun-done-text (after-enum-told .enum-told .given .1)) (start .pre)
 
 enum-known-a : tie.Need-enum-known-a
 enum-known-a c = search needs
 
 write-refused-requires : tie.Need-write-refused-requires
-write-refused-requires c κs = same-room _ (begun-refused-text (c .before .before .a .given .1)) (c .before .before .before .before .before .pre)
+write-refused-requires c κs =
+    let after-a = c .before .before in
+    let start = after-a .before .before .before in
+    same-room _ (begun-refused-text (after-a .a .given .1)) (start .pre)
 
 same-length : tie.Need-same-length
 same-length c = search needs
 
 returns : tie.Need-returns
-returns c = same-text (begun-done-text (c .before .before .before .before .before .enum-told .given .1)) (c .before .before .write-word .ensures)
+returns c =
+    let after-write-word = c .before .before in
+    let after-enum-told = after-write-word .before .before .before in
+    same-text (begun-done-text (after-enum-told .enum-told .given .1)) (after-write-word .write-word .ensures)
 
 same-length-2 : tie.Need-same-length-2
 same-length-2 c = search needs
 
 returns-2 : tie.Need-returns-2
-returns-2 c = same-text (begun-refused-text (c .before .before .before .before .before .a .given .1)) (c .before .before .write-refused .ensures)
+returns-2 c =
+    let after-write-refused = c .before .before in
+    let after-a = after-write-refused .before .before .before in
+    same-text (begun-refused-text (after-a .a .given .1)) (after-write-refused .write-refused .ensures)
 
 pub write-begun-spec : {M : Type 1} → statement M
 write-begun-spec =

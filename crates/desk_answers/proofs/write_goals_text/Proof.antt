@@ -9,10 +9,15 @@ slice-aggregate-write-word : tie.Need-slice-aggregate-write-word
 slice-aggregate-write-word c = search needs
 
 write-word-requires : tie.Need-write-word-requires
-write-word-requires c κs = first-room _ (c .before .before .before .before .pre) (goals-pieces _ _)
+write-word-requires c κs =
+    let start = c .before .before .before .before in
+    first-room _ (start .pre) (goals-pieces _ _)
 
 write-pairs-requires : tie.Need-write-pairs-requires
-write-pairs-requires c κs = (search needs, second-room (c .before .before .before .before .before .before .before .before .pre) (goals-pieces _ _) (c .before .before .before .write-word .ensures))
+write-pairs-requires c κs =
+    let after-write-word = c .before .before .before in
+    let start = after-write-word .before .before .before .before .before in
+    (search needs, second-room (start .pre) (goals-pieces _ _) (after-write-word .write-word .ensures))
 
 write-named-requires : tie.Need-write-named-requires
 write-named-requires c κs = search (third-room, goals-pieces)

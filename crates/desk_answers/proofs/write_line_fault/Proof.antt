@@ -12,13 +12,20 @@ write-word-requires : tie.Need-write-word-requires
 write-word-requires c κs = first-room _ (c .before .before .before .pre) (line-pieces _)
 
 write-number-requires : tie.Need-write-number-requires
-write-number-requires c κs = second-room (c .before .before .before .before .before .before .before .pre) (line-pieces _) (c .before .before .before .write-word .ensures)
+write-number-requires c κs =
+    let after-write-word = c .before .before .before in
+    let start = after-write-word .before .before .before .before in
+    second-room (start .pre) (line-pieces _) (after-write-word .write-word .ensures)
 
 slice-aggregate-write-word-2 : tie.Need-slice-aggregate-write-word-2
 slice-aggregate-write-word-2 c = search needs
 
 write-word-requires-2 : tie.Need-write-word-requires-2
-write-word-requires-2 c κs = third-room (c .before .before .before .before .before .before .before .before .before .before .before .before .pre) (line-pieces _) (c .before .before .before .before .before .before .before .before .write-word .ensures) (c .before .before .before .before .write-number .ensures)
+write-word-requires-2 c κs =
+    let after-write-number = c .before .before .before .before in
+    let after-write-word = after-write-number .before .before .before .before in
+    let start = after-write-word .before .before .before .before in
+    third-room (start .pre) (line-pieces _) (after-write-word .write-word .ensures) (after-write-number .write-number .ensures)
 
 same-length : tie.Need-same-length
 same-length c = search needs

@@ -16,13 +16,18 @@ cast-write-numbered : tie.Need-cast-write-numbered
 cast-write-numbered c = search needs
 
 write-numbered-requires : tie.Need-write-numbered-requires
-write-numbered-requires c κs = same-room _ (same-number (word "refused ") (c .before .refusal-number .ensures)) (c .before .before .before .before .pre)
+write-numbered-requires c κs =
+    let start = c .before .before .before .before in
+    same-room _ (same-number (word "refused ") (c .before .refusal-number .ensures)) (start .pre)
 
 same-length : tie.Need-same-length
 same-length c = search needs
 
 returns : tie.Need-returns
-returns c = same-text (same-number (word "refused ") (c .before .before .before .before .refusal-number .ensures)) (c .before .before .write-numbered .ensures)
+returns c =
+    let after-write-numbered = c .before .before in
+    let after-refusal-number = after-write-numbered .before .before in
+    same-text (same-number (word "refused ") (after-refusal-number .refusal-number .ensures)) (after-write-numbered .write-numbered .ensures)
 
 pub write-refused-spec : {M : Type 1} → statement M
 write-refused-spec =

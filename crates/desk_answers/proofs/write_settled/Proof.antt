@@ -9,7 +9,10 @@ enum-known-a : tie.Need-enum-known-a
 enum-known-a c = search needs
 
 write-refused-requires : tie.Need-write-refused-requires
-write-refused-requires c κs = same-room _ (settled-refused-text (c .before .before .a .given .1)) (c .before .before .before .before .before .pre)
+write-refused-requires c κs =
+    let after-a = c .before .before in
+    let start = after-a .before .before .before in
+    same-room _ (settled-refused-text (after-a .a .given .1)) (start .pre)
 
 enum-told : tie.Need-enum-told
 enum-told c = search needs
@@ -18,7 +21,10 @@ slice-aggregate-write-word : tie.Need-slice-aggregate-write-word
 slice-aggregate-write-word c = search needs
 
 write-word-requires : tie.Need-write-word-requires
-write-word-requires c κs = same-room _ (settled-running-text (c .before .before .enum-told .given .1)) (c .before .before .before .before .before .pre)
+write-word-requires c κs =
+    let after-enum-told = c .before .before in
+    let start = after-enum-told .before .before .before in
+    same-room _ (settled-running-text (after-enum-told .enum-told .given .1)) (start .pre)
 
 enum-told-2 : tie.Need-enum-told-2
 enum-told-2 c = search needs
@@ -27,25 +33,37 @@ slice-aggregate-write-word-2 : tie.Need-slice-aggregate-write-word-2
 slice-aggregate-write-word-2 c = search needs
 
 write-word-requires-2 : tie.Need-write-word-requires-2
-write-word-requires-2 c κs = same-room _ (settled-finished-text (c .before .before .enum-told2 .given .1)) (c .before .before .before .before .before .pre)
+write-word-requires-2 c κs =
+    let after-enum-told2 = c .before .before in
+    let start = after-enum-told2 .before .before .before in
+    same-room _ (settled-finished-text (after-enum-told2 .enum-told2 .given .1)) (start .pre)
 
 same-length : tie.Need-same-length
 same-length c = search needs
 
 returns : tie.Need-returns
-returns c = same-text (settled-refused-text (c .before .before .before .before .before .a .given .1)) (c .before .before .write-refused .ensures)
+returns c =
+    let after-write-refused = c .before .before in
+    let after-a = after-write-refused .before .before .before in
+    same-text (settled-refused-text (after-a .a .given .1)) (after-write-refused .write-refused .ensures)
 
 same-length-2 : tie.Need-same-length-2
 same-length-2 c = search needs
 
 returns-2 : tie.Need-returns-2
-returns-2 c = same-text (settled-running-text (c .before .before .before .before .before .enum-told .given .1)) (c .before .before .write-word .ensures)
+returns-2 c =
+    let after-write-word = c .before .before in
+    let after-enum-told = after-write-word .before .before .before in
+    same-text (settled-running-text (after-enum-told .enum-told .given .1)) (after-write-word .write-word .ensures)
 
 same-length-3 : tie.Need-same-length-3
 same-length-3 c = search needs
 
 returns-3 : tie.Need-returns-3
-returns-3 c = same-text (settled-finished-text (c .before .before .before .before .before .enum-told2 .given .1)) (c .before .before .write-word2 .ensures)
+returns-3 c =
+    let after-write-word2 = c .before .before in
+    let after-enum-told2 = after-write-word2 .before .before .before in
+    same-text (settled-finished-text (after-enum-told2 .enum-told2 .given .1)) (after-write-word2 .write-word2 .ensures)
 
 pub write-settled-spec : {M : Type 1} → statement M
 write-settled-spec =

@@ -44,7 +44,8 @@ returns : tie.Need-returns
 returns c =
     let made = c .before .before .before in
     let read = made .before .before .before .before .before in
-    read-brings _ (read .read .last .1 .0) _ _ _ (read .before .before .before .before .pre) (same-length c) (made .piece-of .ensures)
+    let start = read .before .before .before .before in
+    read-brings _ (read .read .last .1 .0) _ _ _ (start .pre) (same-length c) (made .piece-of .ensures)
 
 same-length-2 : tie.Need-same-length-2
 same-length-2 c = search needs
@@ -53,7 +54,8 @@ returns-2 : tie.Need-returns-2
 returns-2 c =
     let made = c .before .before in
     let read = made .before .before .before .before .before in
-    read-brings _ (read .read .last .1 .0) _ _ _ (read .before .before .before .before .pre) (same-length-2 c) (made .piece-of .ensures)
+    let start = read .before .before .before .before in
+    read-brings _ (read .read .last .1 .0) _ _ _ (start .pre) (same-length-2 c) (made .piece-of .ensures)
 
 pub read-piece-spec : {M : Type 1} → statement M
 read-piece-spec =

@@ -21,8 +21,10 @@ slice-aggregate-write-table-text c = search needs
 
 write-table-text-requires : tie.Need-write-table-text-requires
 write-table-text-requires c κs =
-    let a = c .before .before .before .before .before .compile .ensures in
-    omega (arith, list-long _ (lengthOf Table maxParts) (omega arith) _ (a .0) _ (a .1) (c .before .before .enum-told .given .1))
+    let after-enum-told = c .before .before in
+    let after-compile = after-enum-told .before .before .before in
+    let a = after-compile .compile .ensures in
+    omega (arith, list-long _ (lengthOf Table maxParts) (omega arith) _ (a .0) _ (a .1) (after-enum-told .enum-told .given .1))
 
 enum-known-answer : tie.Need-enum-known-answer
 enum-known-answer c = search needs
@@ -35,16 +37,22 @@ same-length c = search needs
 
 returns : tie.Need-returns
 returns c =
-    let a = c .before .before .before .before .before .before .before .before .compile .ensures in
-    list-done _ _ _ _ (lengthOf Table maxParts) (omega arith) _ (a .0) _ (a .1) (c .before .before .before .before .before .enum-told .given .1) (c .before .before .write-table-text .ensures)
+    let after-write-table-text = c .before .before in
+    let after-enum-told = after-write-table-text .before .before .before in
+    let after-compile = after-enum-told .before .before .before in
+    let a = after-compile .compile .ensures in
+    list-done _ _ _ _ (lengthOf Table maxParts) (omega arith) _ (a .0) _ (a .1) (after-enum-told .enum-told .given .1) (after-write-table-text .write-table-text .ensures)
 
 same-length-2 : tie.Need-same-length-2
 same-length-2 c = search needs
 
 returns-2 : tie.Need-returns-2
 returns-2 c =
-    let a = c .before .before .before .before .before .before .before .before .compile .ensures in
-    list-refused _ _ _ _ (lengthOf Table maxParts) (omega arith) _ (a .0) _ (c .before .before .before .before .before .answer .given .1) (c .before .before .write-refusal .ensures)
+    let after-write-refusal = c .before .before in
+    let after-answer = after-write-refusal .before .before .before in
+    let after-compile = after-answer .before .before .before in
+    let a = after-compile .compile .ensures in
+    list-refused _ _ _ _ (lengthOf Table maxParts) (omega arith) _ (a .0) _ (after-answer .answer .given .1) (after-write-refusal .write-refusal .ensures)
 
 pub list-spec : {M : Type 1} → statement M
 list-spec =

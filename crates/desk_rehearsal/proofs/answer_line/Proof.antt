@@ -37,8 +37,10 @@ add-parts-requires c κs =
     let made = called .before .before .before .before .before .before in
     let counted = made .before .before .before .before in
     let heard = counted .before .before in
-    let sizes = heard .before .before .before .before .before .shared-slice-known .given in
-    answer-room _ _ _ _ _ _ _ _ (heard .before .before .before .before .before .before .args .asked) _ _ _ _ _ (heard .parse-line .ensures) (counted .estimate-length .ensures) (called .is-call .ensures) (made .make-call .ensures) (sizes 0 .fits) (sizes 1 .fits)
+    let after-shared-slice-known = heard .before .before .before .before .before in
+    let start = after-shared-slice-known .before in
+    let sizes = after-shared-slice-known .shared-slice-known .given in
+    answer-room _ _ _ _ _ _ _ _ (start .args .asked) _ _ _ _ _ (heard .parse-line .ensures) (counted .estimate-length .ensures) (called .is-call .ensures) (made .make-call .ensures) (sizes 0 .fits) (sizes 1 .fits)
 
 same-length : tie.Need-same-length
 same-length c = search needs
@@ -48,12 +50,15 @@ same-length-2 c = search needs
 
 returns : tie.Need-returns
 returns c =
-    let called = c .before .before .before .before in
+    let after-add-parts = c .before .before in
+    let called = after-add-parts .before .before in
     let made = called .before .before .before .before .before .before in
     let counted = made .before .before .before .before in
     let heard = counted .before .before in
-    let sizes = heard .before .before .before .before .before .shared-slice-known .given in
-    answer-made _ _ _ _ _ _ _ _ (heard .before .before .before .before .before .before .args .asked) _ _ _ _ _ (heard .parse-line .ensures) (counted .estimate-length .ensures) (called .is-call .ensures) (made .make-call .ensures) (sizes 0 .fits) (sizes 1 .fits) _ _ (c .before .before .add-parts .ensures)
+    let after-shared-slice-known = heard .before .before .before .before .before in
+    let start = after-shared-slice-known .before in
+    let sizes = after-shared-slice-known .shared-slice-known .given in
+    answer-made _ _ _ _ _ _ _ _ (start .args .asked) _ _ _ _ _ (heard .parse-line .ensures) (counted .estimate-length .ensures) (called .is-call .ensures) (made .make-call .ensures) (sizes 0 .fits) (sizes 1 .fits) _ _ (after-add-parts .add-parts .ensures)
 
 pub answer-line-spec : {M : Type 1} → statement M
 answer-line-spec =

@@ -13,7 +13,8 @@ same-length c = search needs
 returns : tie.Need-returns
 returns c =
     let written = c .before .before in
-    let sizes = written .before .before .before .before .shared-slice-known .given in
+    let after-shared-slice-known = written .before .before .before .before in
+    let sizes = after-shared-slice-known .shared-slice-known .given in
     (written .write-summary .ensures, summary-short _ _ _ (sizes 1 .fits) (sizes 2 .fits) _ _ _ (written .write-summary .ensures))
 
 pub summarise-spec : {M : Type 1} → statement M

@@ -24,21 +24,32 @@ length-of-requires : tie.Need-length-of-requires
 length-of-requires c κs = search needs
 
 returns-2 : tie.Need-returns-2
-returns-2 c = compile-short _ _ _ _ (not-refused _ _ (c .before .before .before .before .before .program-refusal .ensures) (c .before .before .before .enum-told .given .1)) (c .before .before .parts .ensures) (c .before .length-of .ensures) (c .if1 .taken)
+returns-2 c =
+    let after-parts = c .before .before in
+    let after-enum-told = after-parts .before in
+    let after-program-refusal = after-enum-told .before .before in
+    compile-short _ _ _ _ (not-refused _ _ (after-program-refusal .program-refusal .ensures) (after-enum-told .enum-told .given .1)) (after-parts .parts .ensures) (c .before .length-of .ensures) (c .if1 .taken)
 
 write-table-requires : tie.Need-write-table-requires
 write-table-requires c κs =
-    let h = not-refused _ _ (c .before .before .before .before .before .before .program-refusal .ensures) (c .before .before .before .before .enum-told .given .1) in
-    read-fits _ _ _ _ h (c .before .before .before .parts .ensures) (c .before .before .length-of .ensures) (c .before .if1 .left)
+    let after-length-of = c .before .before in
+    let after-parts = after-length-of .before in
+    let after-enum-told = after-parts .before in
+    let after-program-refusal = after-enum-told .before .before in
+    let h = not-refused _ _ (after-program-refusal .program-refusal .ensures) (after-enum-told .enum-told .given .1) in
+    read-fits _ _ _ _ h (after-parts .parts .ensures) (after-length-of .length-of .ensures) (c .before .if1 .left)
 
 same-length : tie.Need-same-length
 same-length c = search needs
 
 returns-3 : tie.Need-returns-3
 returns-3 c =
-    let room = c .before .before .before .before in
-    let told = room .before .before .before in
-    compile-done _ _ _ _ (not-refused _ _ (told .before .before .program-refusal .ensures) (told .enum-told .given .1)) (room .before .before .parts .ensures) (room .before .length-of .ensures) _ (room .if1 .left) (c .before .before .write-table .ensures)
+    let after-write-table = c .before .before in
+    let room = after-write-table .before .before in
+    let after-parts = room .before .before in
+    let told = after-parts .before in
+    let after-program-refusal = told .before .before in
+    compile-done _ _ _ _ (not-refused _ _ (after-program-refusal .program-refusal .ensures) (told .enum-told .given .1)) (after-parts .parts .ensures) (room .before .length-of .ensures) _ (room .if1 .left) (after-write-table .write-table .ensures)
 
 pub compile-spec : {M : Type 1} → statement M
 compile-spec =

@@ -27,8 +27,11 @@ returns-3 c =
 
 returns-4 : tie.Need-returns-4
 returns-4 c =
-    let operands = c .before .before .before in
-    depth-refused File _ _ (operands .before .before .kinds-known .ensures) (operands .before .if1 .left) _ (operands .operands-allowed .ensures) (c .before .before .if2 .left) _ (c .before .is-one-tree .ensures) (c .if3 .left) (operands .before .before .before .before .pre .1)
+    let after-if2 = c .before .before in
+    let operands = after-if2 .before in
+    let after-kinds-known = operands .before .before in
+    let start = after-kinds-known .before .before in
+    depth-refused File _ _ (after-kinds-known .kinds-known .ensures) (operands .before .if1 .left) _ (operands .operands-allowed .ensures) (after-if2 .if2 .left) _ (c .before .is-one-tree .ensures) (c .if3 .left) (start .pre .1)
 
 pub failed-walk-refusal-spec : {M : Type 1} → statement M
 failed-walk-refusal-spec =

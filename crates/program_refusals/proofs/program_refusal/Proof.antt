@@ -21,13 +21,24 @@ length-of-requires : tie.Need-length-of-requires
 length-of-requires c κs = search needs
 
 returns-3 : tie.Need-returns-3
-returns-3 c = length-refused File _ _ _ _ (c .before .before .before .before .before .if1 .left) (c .before .before .before .before .sizes-allowed .ensures) (c .before .before .before .if2 .left) (c .before .before .parts .ensures) (c .before .length-of .ensures) (c .if3 .taken)
+returns-3 c =
+    let after-parts = c .before .before in
+    let after-if2 = after-parts .before in
+    let after-sizes-allowed = after-if2 .before in
+    let after-if1 = after-sizes-allowed .before in
+    length-refused File _ _ _ _ (after-if1 .if1 .left) (after-sizes-allowed .sizes-allowed .ensures) (after-if2 .if2 .left) (after-parts .parts .ensures) (c .before .length-of .ensures) (c .if3 .taken)
 
 parts-refusal-requires : tie.Need-parts-refusal-requires
 parts-refusal-requires c κs = (search long-enough, search has-parts)
 
 returns-4 : tie.Need-returns-4
-returns-4 c = parts-refused File _ _ _ _ (c .before .before .before .before .before .before .if1 .left) (c .before .before .before .before .before .sizes-allowed .ensures) (c .before .before .before .before .if2 .left) (c .before .before .before .parts .ensures) (c .before .before .length-of .ensures) _ (c .before .if3 .left) (c .parts-refusal .ensures)
+returns-4 c =
+    let after-length-of = c .before .before in
+    let after-parts = after-length-of .before in
+    let after-if2 = after-parts .before in
+    let after-sizes-allowed = after-if2 .before in
+    let after-if1 = after-sizes-allowed .before in
+    parts-refused File _ _ _ _ (after-if1 .if1 .left) (after-sizes-allowed .sizes-allowed .ensures) (after-if2 .if2 .left) (after-parts .parts .ensures) (after-length-of .length-of .ensures) _ (c .before .if3 .left) (c .parts-refusal .ensures)
 
 pub program-refusal-spec : {M : Type 1} → statement M
 program-refusal-spec =

@@ -25,7 +25,8 @@ copy-inside-requires : tie.Need-copy-inside-requires
 copy-inside-requires c κs =
     let phase = c .before .before .before .before .before in
     let clocks = phase .before .before .before .before .before in
-    let given = clocks .before .before .before .before .before .before .pre in
+    let start = clocks .before .before .before .before .before .before in
+    let given = start .pre in
     estimate-fit _ _ _ _ _ (given .0) (given .1 .1 .1 .0) (c .before .variables .ensures) (c .wide .ensures) (omega (arith, allowed-long _ _ (given .1 .0), clocks .start-clocks .kept, phase .store .kept))
 
 parts-requires : tie.Need-parts-requires
@@ -39,7 +40,8 @@ copy-inside-requires-2 c κs =
     let estimate = c .before .before .before .before .before in
     let phase = estimate .before .before .before .before .before .before in
     let clocks = phase .before .before .before .before .before in
-    let given = clocks .before .before .before .before .before .before .pre in
+    let start = clocks .before .before .before .before .before .before in
+    let given = start .pre in
     marks-fit _ _ _ _ _ (given .0) (given .1 .1 .0) (c .before .parts .ensures) (c .index .ensures) (omega (arith, allowed-long _ _ (given .1 .0), clocks .start-clocks .kept, phase .store .kept, estimate .copy-inside .kept))
 
 same-length : tie.Need-same-length
@@ -48,11 +50,14 @@ same-length c = search needs
 returns : tie.Need-returns
 returns c =
     let marks = c .before .before in
-    let estimate = marks .before .before .before .before .before .before in
-    let phase = estimate .before .before .before .before .before .before in
+    let after-parts = marks .before .before in
+    let estimate = after-parts .before .before .before .before in
+    let after-variables = estimate .before .before in
+    let phase = after-variables .before .before .before .before in
     let clocks = phase .before .before .before .before .before in
-    let given = clocks .before .before .before .before .before .before .pre in
-    record-committed _ _ _ _ (given .0) (given .1 .1 .1 .0) (given .1 .1 .1 .1) _ _ _ _ _ _ _ _ _ (clocks .start-clocks .ensures) (phase .before .phase-after .ensures) (phase .store .ensures) (estimate .before .before .variables .ensures) (estimate .before .wide .ensures) (estimate .copy-inside .ensures) (marks .before .before .parts .ensures) (marks .before .index .ensures) (marks .copy-inside2 .ensures)
+    let start = clocks .before .before .before .before .before .before in
+    let given = start .pre in
+    record-committed _ _ _ _ (given .0) (given .1 .1 .1 .0) (given .1 .1 .1 .1) _ _ _ _ _ _ _ _ _ (clocks .start-clocks .ensures) (phase .before .phase-after .ensures) (phase .store .ensures) (after-variables .variables .ensures) (estimate .before .wide .ensures) (estimate .copy-inside .ensures) (after-parts .parts .ensures) (marks .before .index .ensures) (marks .copy-inside2 .ensures)
 
 pub commit-spec : {M : Type 1} → statement M
 commit-spec =

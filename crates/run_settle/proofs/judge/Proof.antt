@@ -35,7 +35,8 @@ returns-2 c =
     let marks = look .before .before .before .before in
     let told = marks .before .before in
     let early = told .before .before in
-    judged-done _ _ _ _ (early .early-refusal .ensures) (told .enum-told .given .1) _ _ _ _ (early .before .before .before .before .before .pre) (marks .settle-marks .ensures) (look .at .ensures) (work .works .ensures) (c .if1 .taken)
+    let start = early .before .before .before .before .before in
+    judged-done _ _ _ _ (early .early-refusal .ensures) (told .enum-told .given .1) _ _ _ _ (start .pre) (marks .settle-marks .ensures) (look .at .ensures) (work .works .ensures) (c .if1 .taken)
 
 same-length-2 : tie.Need-same-length-2
 same-length-2 c = search needs
@@ -47,7 +48,8 @@ returns-3 c =
     let marks = look .before .before .before .before in
     let told = marks .before .before in
     let early = told .before .before in
-    judged-stuck _ _ _ _ (early .early-refusal .ensures) (told .enum-told .given .1) _ _ _ _ (early .before .before .before .before .before .pre) (marks .settle-marks .ensures) (look .at .ensures) (work .works .ensures) (c .if1 .left)
+    let start = early .before .before .before .before .before in
+    judged-stuck _ _ _ _ (early .early-refusal .ensures) (told .enum-told .given .1) _ _ _ _ (start .pre) (marks .settle-marks .ensures) (look .at .ensures) (work .works .ensures) (c .if1 .left)
 
 pub judge-spec : {M : Type 1} → statement M
 judge-spec =

@@ -19,7 +19,9 @@ same-length : tie.Need-same-length
 same-length c = search needs
 
 returns : tie.Need-returns
-returns c = settled-refused _ _ _ _ _ _ (c .before .before .before .before .judge .ensures) (c .before .answer .given .1)
+returns c =
+    let after-judge = c .before .before .before .before in
+    settled-refused _ _ _ _ _ _ (after-judge .judge .ensures) (c .before .answer .given .1)
 
 enum-told : tie.Need-enum-told
 enum-told c = search needs
@@ -29,7 +31,9 @@ slice-aggregate-commit c = search needs
 
 commit-requires : tie.Need-commit-requires
 commit-requires c κs =
-    let x = to-commit _ _ _ _ _ (c .before .before .before .before .before .judge .ensures) (c .before .before .enum-told .given .1) in
+    let after-enum-told = c .before .before in
+    let after-judge = after-enum-told .before .before .before in
+    let x = to-commit _ _ _ _ _ (after-judge .judge .ensures) (after-enum-told .enum-told .given .1) in
     (x .0, (x .1 .0, (omega (arith, parts-fit _ (x .0)), x .1 .1)))
 
 slice-aggregate-at : tie.Need-slice-aggregate-at
@@ -46,7 +50,8 @@ returns-2 c =
     let look = c .before in
     let written = look .before .before .before .before in
     let told = written .before .before .before in
-    settled-finished _ _ _ _ _ (told .before .before .before .judge .ensures) (told .enum-told .given .1) _ _ (written .commit .ensures) (look .at .ensures) (c .if1 .taken)
+    let after-judge = told .before .before .before in
+    settled-finished _ _ _ _ _ (after-judge .judge .ensures) (told .enum-told .given .1) _ _ (written .commit .ensures) (look .at .ensures) (c .if1 .taken)
 
 same-length-3 : tie.Need-same-length-3
 same-length-3 c = search needs
@@ -56,7 +61,8 @@ returns-3 c =
     let look = c .before in
     let written = look .before .before .before .before in
     let told = written .before .before .before in
-    settled-running _ _ _ _ _ (told .before .before .before .judge .ensures) (told .enum-told .given .1) _ _ (written .commit .ensures) (look .at .ensures) (c .if1 .left)
+    let after-judge = told .before .before .before in
+    settled-running _ _ _ _ _ (after-judge .judge .ensures) (told .enum-told .given .1) _ _ (written .commit .ensures) (look .at .ensures) (c .if1 .left)
 
 pub settle-spec : {M : Type 1} → statement M
 settle-spec =

@@ -23,7 +23,10 @@ same-length-2 : tie.Need-same-length-2
 same-length-2 c = search needs
 
 returns : tie.Need-returns
-returns c = offer-lent _ _ _ _ _ _ _ maxGoals _ _ (c .before .before .before .before .before .before .before .before .before .before .before .before .pre) (c .before .before .before .before .before .offer-into .ensures)
+returns c =
+    let after-offer-into = c .before .before .before .before .before in
+    let start = after-offer-into .before .before .before .before .before .before .before in
+    offer-lent _ _ _ _ _ _ _ maxGoals _ _ (start .pre) (after-offer-into .offer-into .ensures)
 
 pub offer-call-spec : {M : Type 1} → statement M
 offer-call-spec =

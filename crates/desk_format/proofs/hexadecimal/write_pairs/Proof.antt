@@ -37,7 +37,10 @@ loop-less : tie.Need-loop-less Inv-loop μ-loop
 loop-less c = omega arith
 
 loop-again : tie.Need-loop-again Inv-loop μ-loop
-loop-again c = (c .before .before .write-pair .kept .1 .0 ∙ c .before .before .before .before .before .before .loop .inv .0, search pairs-step)
+loop-again c =
+    let after-write-pair = c .before .before in
+    let at-loop = after-write-pair .before .before .before .before in
+    (after-write-pair .write-pair .kept .1 .0 ∙ at-loop .loop .inv .0, search pairs-step)
 
 same-length : tie.Need-same-length Inv-loop μ-loop
 same-length c = c .before .loop .inv .0

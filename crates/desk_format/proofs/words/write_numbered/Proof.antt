@@ -9,7 +9,10 @@ write-word-requires : tie.Need-write-word-requires
 write-word-requires c κs = first-room _ (c .before .before .before .pre) (numbered-pieces _ _)
 
 write-number-requires : tie.Need-write-number-requires
-write-number-requires c κs = second-room (c .before .before .before .before .before .before .before .pre) (numbered-pieces _ _) (c .before .before .before .write-word .ensures)
+write-number-requires c κs =
+    let after-write-word = c .before .before .before in
+    let start = after-write-word .before .before .before .before in
+    second-room (start .pre) (numbered-pieces _ _) (after-write-word .write-word .ensures)
 
 slice-aggregate-write-word : tie.Need-slice-aggregate-write-word
 slice-aggregate-write-word c = search needs

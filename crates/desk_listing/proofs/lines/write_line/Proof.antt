@@ -37,7 +37,10 @@ loop-less : tie.Need-loop-less Inv-loop μ-loop
 loop-less c = omega arith
 
 loop-again : tie.Need-loop-again Inv-loop μ-loop
-loop-again c = (c .before .before .write-item .kept .1 .1 .0 ∙ c .before .before .before .before .before .before .loop .inv .0, search line-step)
+loop-again c =
+    let after-write-item = c .before .before in
+    let at-loop = after-write-item .before .before .before .before in
+    (after-write-item .write-item .kept .1 .1 .0 ∙ at-loop .loop .inv .0, search line-step)
 
 same-length : tie.Need-same-length Inv-loop μ-loop
 same-length c = c .before .loop .inv .0

@@ -33,7 +33,10 @@ loop-less : tie.Need-loop-less Inv-loop μ-loop
 loop-less c = omega arith
 
 loop-again : tie.Need-loop-again Inv-loop μ-loop
-loop-again c = (c .before .before .write-row-line .kept .1 .1 .0 ∙ c .before .before .before .before .before .loop .inv .0, search rows-step)
+loop-again c =
+    let after-write-row-line = c .before .before in
+    let at-loop = after-write-row-line .before .before .before in
+    (after-write-row-line .write-row-line .kept .1 .1 .0 ∙ at-loop .loop .inv .0, search rows-step)
 
 same-length : tie.Need-same-length Inv-loop μ-loop
 same-length c = c .before .loop .inv .0

@@ -17,7 +17,11 @@ write-line-requires : tie.Need-write-line-requires
 write-line-requires c κs = omega (arith, line-fits (c .before .before .size-numbers .result), ap length (c .before .before .size-numbers .ensures))
 
 write-row-lines-requires : tie.Need-write-row-lines-requires
-write-row-lines-requires c κs = (search needs, table-room _ _ _ (c .before .before .before .before .before .before .size-numbers .ensures) (c .before .before .before .write-line .ensures .after) (c .before .before .before .before .before .before .before .before .shared-slice-known .given 0 .fits))
+write-row-lines-requires c κs =
+    let after-write-line = c .before .before .before in
+    let after-size-numbers = after-write-line .before .before .before in
+    let after-shared-slice-known = after-size-numbers .before .before in
+    (search needs, table-room _ _ _ (after-size-numbers .size-numbers .ensures) (after-write-line .write-line .ensures .after) (after-shared-slice-known .shared-slice-known .given 0 .fits))
 
 same-length : tie.Need-same-length
 same-length c = search needs

@@ -60,7 +60,10 @@ loop-less-2 : tie.Need-loop-less-2 Inv-loop μ-loop
 loop-less-2 c = search needs
 
 loop-again-2 : tie.Need-loop-again-2 Inv-loop μ-loop
-loop-again-2 c = (c .before .before .put .kept .0 ∙ c .before .before .before .before .before .before .before .before .before .before .before .loop .inv .0, search reading-pair)
+loop-again-2 c =
+    let after-put = c .before .before in
+    let at-loop = after-put .before .before .before .before .before .before .before .before .before in
+    (after-put .put .kept .0 ∙ at-loop .loop .inv .0, search reading-pair)
 
 same-length-2 : tie.Need-same-length-2 Inv-loop μ-loop
 same-length-2 c = search needs

@@ -9,16 +9,25 @@ slice-aggregate-write-word : tie.Need-slice-aggregate-write-word
 slice-aggregate-write-word c = search needs
 
 write-word-requires : tie.Need-write-word-requires
-write-word-requires c κs = first-room _ (c .before .before .before .before .before .pre) (parts-pieces _ _)
+write-word-requires c κs =
+    let start = c .before .before .before .before .before in
+    first-room _ (start .pre) (parts-pieces _ _)
 
 write-marks-requires : tie.Need-write-marks-requires
-write-marks-requires c κs = second-room (c .before .before .before .before .before .before .before .before .before .pre) (parts-pieces _ _) (c .before .before .before .write-word .ensures)
+write-marks-requires c κs =
+    let after-write-word = c .before .before .before in
+    let start = after-write-word .before .before .before .before .before .before in
+    second-room (start .pre) (parts-pieces _ _) (after-write-word .write-word .ensures)
 
 slice-aggregate-write-word-2 : tie.Need-slice-aggregate-write-word-2
 slice-aggregate-write-word-2 c = search needs
 
 write-word-requires-2 : tie.Need-write-word-requires-2
-write-word-requires-2 c κs = third-room (c .before .before .before .before .before .before .before .before .before .before .before .before .before .before .pre) (parts-pieces _ _) (c .before .before .before .before .before .before .before .before .write-word .ensures) (c .before .before .before .before .write-marks .ensures)
+write-word-requires-2 c κs =
+    let after-write-marks = c .before .before .before .before in
+    let after-write-word = after-write-marks .before .before .before .before in
+    let start = after-write-word .before .before .before .before .before .before in
+    third-room (start .pre) (parts-pieces _ _) (after-write-word .write-word .ensures) (after-write-marks .write-marks .ensures)
 
 same-length : tie.Need-same-length
 same-length c = search needs

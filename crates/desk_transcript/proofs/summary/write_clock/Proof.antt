@@ -9,10 +9,15 @@ slice-aggregate-write-word : tie.Need-slice-aggregate-write-word
 slice-aggregate-write-word c = search needs
 
 write-word-requires : tie.Need-write-word-requires
-write-word-requires c κs = first-room _ (c .before .before .before .before .before .pre .1) (clock-pieces _ _ _)
+write-word-requires c κs =
+    let start = c .before .before .before .before .before in
+    first-room _ (start .pre .1) (clock-pieces _ _ _)
 
 write-number-requires : tie.Need-write-number-requires
-write-number-requires c κs = second-room (c .before .before .before .before .before .before .before .before .before .pre .1) (clock-pieces _ _ _) (c .before .before .before .write-word .ensures)
+write-number-requires c κs =
+    let after-write-word = c .before .before .before in
+    let start = after-write-word .before .before .before .before .before .before in
+    second-room (start .pre .1) (clock-pieces _ _ _) (after-write-word .write-word .ensures)
 
 write-start-requires : tie.Need-write-start-requires
 write-start-requires c κs = (search needs, search (third-room, clock-pieces))

@@ -33,7 +33,10 @@ loop-less : tie.Need-loop-less Inv-loop μ-loop
 loop-less c = omega arith
 
 loop-again : tie.Need-loop-again Inv-loop μ-loop
-loop-again c = (c .before .before .write-clock .kept .1 .1 .1 .0 ∙ c .before .before .before .before .before .loop .inv .0, search texts-step)
+loop-again c =
+    let after-write-clock = c .before .before in
+    let at-loop = after-write-clock .before .before .before in
+    (after-write-clock .write-clock .kept .1 .1 .1 .0 ∙ at-loop .loop .inv .0, search texts-step)
 
 same-length : tie.Need-same-length Inv-loop μ-loop
 same-length c = c .before .loop .inv .0

@@ -11,7 +11,9 @@ slice-aggregate-write-word : tie.Need-slice-aggregate-write-word
 slice-aggregate-write-word c = search needs
 
 write-word-requires : tie.Need-write-word-requires
-write-word-requires c κs = first-room _ (c .before .before .before .before .before .pre) (estimate-pieces _ _ refl)
+write-word-requires c κs =
+    let start = c .before .before .before .before .before in
+    first-room _ (start .pre) (estimate-pieces _ _ refl)
 
 variables-requires : tie.Need-variables-requires
 variables-requires c κs = search needs
@@ -20,13 +22,21 @@ cast-write-pairs : tie.Need-cast-write-pairs
 cast-write-pairs c = search needs
 
 write-pairs-requires : tie.Need-write-pairs-requires
-write-pairs-requires c κs = (omega arith, second-room (c .before .before .before .before .before .before .before .before .before .before .pre) (estimate-pieces _ _ (c .before .variables .ensures)) (c .before .before .before .before .write-word .ensures))
+write-pairs-requires c κs =
+    let after-write-word = c .before .before .before .before in
+    let start = after-write-word .before .before .before .before .before .before in
+    (omega arith, second-room (start .pre) (estimate-pieces _ _ (c .before .variables .ensures)) (after-write-word .write-word .ensures))
 
 slice-aggregate-write-word-2 : tie.Need-slice-aggregate-write-word-2
 slice-aggregate-write-word-2 c = search needs
 
 write-word-requires-2 : tie.Need-write-word-requires-2
-write-word-requires-2 c κs = third-room (c .before .before .before .before .before .before .before .before .before .before .before .before .before .before .before .pre) (estimate-pieces _ _ (c .before .before .before .before .before .before .variables .ensures)) (c .before .before .before .before .before .before .before .before .before .write-word .ensures) (c .before .before .before .before .write-pairs .ensures)
+write-word-requires-2 c κs =
+    let after-write-pairs = c .before .before .before .before in
+    let after-variables = after-write-pairs .before .before in
+    let after-write-word = after-variables .before .before .before in
+    let start = after-write-word .before .before .before .before .before .before in
+    third-room (start .pre) (estimate-pieces _ _ (after-variables .variables .ensures)) (after-write-word .write-word .ensures) (after-write-pairs .write-pairs .ensures)
 
 same-length : tie.Need-same-length
 same-length c = search needs

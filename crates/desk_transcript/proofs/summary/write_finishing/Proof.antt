@@ -12,25 +12,41 @@ slice-aggregate-write-numbered : tie.Need-slice-aggregate-write-numbered
 slice-aggregate-write-numbered c = search needs
 
 write-numbered-requires : tie.Need-write-numbered-requires
-write-numbered-requires c κs = same-room _ (finishing-one _ _ (c .before .before .before .phase .ensures) (c .before .before .if1 .taken)) (c .before .before .before .before .before .before .pre)
+write-numbered-requires c κs =
+    let after-if1 = c .before .before in
+    let after-phase = after-if1 .before in
+    let start = after-phase .before .before .before in
+    same-room _ (finishing-one _ _ (after-phase .phase .ensures) (after-if1 .if1 .taken)) (start .pre)
 
 slice-aggregate-write-word : tie.Need-slice-aggregate-write-word
 slice-aggregate-write-word c = search needs
 
 write-word-requires : tie.Need-write-word-requires
-write-word-requires c κs = same-room _ (finishing-none _ _ (c .before .before .before .phase .ensures) (c .before .before .if1 .left)) (c .before .before .before .before .before .before .pre)
+write-word-requires c κs =
+    let after-if1 = c .before .before in
+    let after-phase = after-if1 .before in
+    let start = after-phase .before .before .before in
+    same-room _ (finishing-none _ _ (after-phase .phase .ensures) (after-if1 .if1 .left)) (start .pre)
 
 same-length : tie.Need-same-length
 same-length c = search needs
 
 returns : tie.Need-returns
-returns c = same-text (finishing-one _ _ (c .before .before .before .before .before .before .phase .ensures) (c .before .before .before .before .before .if1 .taken)) (c .before .before .write-numbered .ensures)
+returns c =
+    let after-write-numbered = c .before .before in
+    let after-if1 = after-write-numbered .before .before .before in
+    let after-phase = after-if1 .before in
+    same-text (finishing-one _ _ (after-phase .phase .ensures) (after-if1 .if1 .taken)) (after-write-numbered .write-numbered .ensures)
 
 same-length-2 : tie.Need-same-length-2
 same-length-2 c = search needs
 
 returns-2 : tie.Need-returns-2
-returns-2 c = same-text (finishing-none _ _ (c .before .before .before .before .before .before .phase .ensures) (c .before .before .before .before .before .if1 .left)) (c .before .before .write-word .ensures)
+returns-2 c =
+    let after-write-word = c .before .before in
+    let after-if1 = after-write-word .before .before .before in
+    let after-phase = after-if1 .before in
+    same-text (finishing-none _ _ (after-phase .phase .ensures) (after-if1 .if1 .left)) (after-write-word .write-word .ensures)
 
 pub write-finishing-spec : {M : Type 1} → statement M
 write-finishing-spec =

@@ -6,10 +6,15 @@ use Rattle.desk_transcript.proofs.summary.write_state.Statement.{statem
 use Rattle.desk_transcript.proofs.summary.write_state.Tie as tie
 
 write-estimate-requires : tie.Need-write-estimate-requires
-write-estimate-requires c κs = first-room _ (c .before .before .before .before .pre) (state-pieces _ _ _)
+write-estimate-requires c κs =
+    let start = c .before .before .before .before in
+    first-room _ (start .pre) (state-pieces _ _ _)
 
 write-clocks-requires : tie.Need-write-clocks-requires
-write-clocks-requires c κs = second-room (c .before .before .before .before .before .before .before .before .pre) (state-pieces _ _ _) (c .before .before .before .write-estimate .ensures)
+write-clocks-requires c κs =
+    let after-write-estimate = c .before .before .before in
+    let start = after-write-estimate .before .before .before .before .before in
+    second-room (start .pre) (state-pieces _ _ _) (after-write-estimate .write-estimate .ensures)
 
 write-finishing-requires : tie.Need-write-finishing-requires
 write-finishing-requires c κs = search (third-room, state-pieces)

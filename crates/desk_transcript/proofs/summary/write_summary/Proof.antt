@@ -16,7 +16,9 @@ cast-write-numbered : tie.Need-cast-write-numbered
 cast-write-numbered c = search needs
 
 write-numbered-requires : tie.Need-write-numbered-requires
-write-numbered-requires c κs = first-room _ (c .before .before .before .before .before .before .pre) (summary-pieces _ _ _ (c .before .phase .ensures) refl)
+write-numbered-requires c κs =
+    let start = c .before .before .before .before .before .before in
+    first-room _ (start .pre) (summary-pieces _ _ _ (c .before .phase .ensures) refl)
 
 slice-aggregate-write-numbered-2 : tie.Need-slice-aggregate-write-numbered-2
 slice-aggregate-write-numbered-2 c = search needs
@@ -28,7 +30,11 @@ cast-write-numbered-2 : tie.Need-cast-write-numbered-2
 cast-write-numbered-2 c = search needs
 
 write-numbered-requires-2 : tie.Need-write-numbered-requires-2
-write-numbered-requires-2 c κs = second-room (c .before .before .before .before .before .before .before .before .before .before .before .before .pre) (summary-pieces _ _ _ (c .before .before .before .before .before .before .before .phase .ensures) (c .before .last-time .ensures)) (c .before .before .before .before .before .write-numbered .ensures)
+write-numbered-requires-2 c κs =
+    let after-write-numbered = c .before .before .before .before .before in
+    let after-phase = after-write-numbered .before .before in
+    let start = after-phase .before .before .before .before .before in
+    second-room (start .pre) (summary-pieces _ _ _ (after-phase .phase .ensures) (c .before .last-time .ensures)) (after-write-numbered .write-numbered .ensures)
 
 write-state-requires : tie.Need-write-state-requires
 write-state-requires c κs = search (third-room, summary-pieces)

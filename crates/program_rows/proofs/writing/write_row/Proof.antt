@@ -27,11 +27,15 @@ arity-requires : tie.Need-arity-requires Inv-loop μ-loop
 arity-requires c κs = search needs
 
 add-q : tie.Need-add-q Inv-loop μ-loop
-add-q c = omega (arith, stands-below File _ _ (c .before .before .before .before .pre .0 .stands), c .before .before .before .shared-slice-known .given 0)
+add-q c =
+    let after-shared-slice-known = c .before .before .before in
+    let start = after-shared-slice-known .before in
+    omega (arith, stands-below File _ _ (start .pre .0 .stands), after-shared-slice-known .shared-slice-known .given 0)
 
 loop-holds : tie.Need-loop-holds Inv-loop μ-loop
 loop-holds c =
-    let pre = c .before .before .before .before .pre in
+    let start = c .before .before .before .before in
+    let pre = start .pre in
     (refl, (rowing-first _ _ _ _ _ (pre .0 .stands) (c .before .entry-at .ensures) (c .arity .ensures), pre .1 .1))
 
 row-place-requires : tie.Need-row-place-requires Inv-loop μ-loop
@@ -88,7 +92,8 @@ loop-again c =
 put-row-requires : tie.Need-put-row-requires Inv-loop μ-loop
 put-row-requires c κs =
     let loop = c .before .before in
-    let pre = loop .before .before .before .before .before .pre in
+    let start = loop .before .before .before .before .before in
+    let pre = start .pre in
     omega (arith, stands-below File _ _ (pre .0 .stands), pre .1 .0, loop .loop .inv .0)
 
 same-length : tie.Need-same-length Inv-loop μ-loop

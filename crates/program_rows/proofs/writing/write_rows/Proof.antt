@@ -34,7 +34,9 @@ write-row-requires c κs =
     (grow-walkable _ (start .args .out .now) (pre .0) _ below, (omega (arith, pre .1, inv .0), grow-forest _ _ (pre .0) _ below _ (omega (arith, turn .loop-test .taken)) _ (inv .1 .1) (pre .1)))
 
 loop-less : tie.Need-loop-less Inv-loop μ-loop
-loop-less c = omega (arith, c .before .before .before .before .loop-test .taken)
+loop-less c =
+    let in-loop = c .before .before .before .before in
+    omega (arith, in-loop .loop-test .taken)
 
 loop-again : tie.Need-loop-again Inv-loop μ-loop
 loop-again c =
@@ -50,7 +52,9 @@ same-length : tie.Need-same-length Inv-loop μ-loop
 same-length c = c .before .loop .inv .0
 
 returns : tie.Need-returns Inv-loop μ-loop
-returns c = grow-all _ _ _ _ (c .before .before .before .before .before .pre .0) (c .before .loop .inv .1 .1) (c .loop-test .left)
+returns c =
+    let start = c .before .before .before .before .before in
+    grow-all _ _ _ _ (start .pre .0) (c .before .loop .inv .1 .1) (c .loop-test .left)
 
 pub write-rows-spec : {M : Type 1} → statement M
 write-rows-spec =

@@ -25,8 +25,10 @@ shared-slice-read-result c = search needs
 returns-4 : tie.Need-returns-4
 returns-4 c =
     let tests = c .before .before in
-    let pre = tests .before .before .before .before .pre in
-    implied-own _ _ (pre .1 .0) (pre .0 .there) _ _ (tests .before .before .if1 .left) (tests .before .if2 .left) (tests .if3 .left) (pre .1 .1 .1) (c .before .row-place .ensures)
+    let after-if1 = tests .before .before in
+    let start = after-if1 .before .before in
+    let pre = start .pre in
+    implied-own _ _ (pre .1 .0) (pre .0 .there) _ _ (after-if1 .if1 .left) (tests .before .if2 .left) (tests .if3 .left) (pre .1 .1 .1) (c .before .row-place .ensures)
 
 pub implied-spec : {M : Type 1} → statement M
 implied-spec =

@@ -14,7 +14,9 @@ entry-at-requires : tie.Need-entry-at-requires
 entry-at-requires c κs = let pre = c .before .before .before .pre in parent-readable _ _ (pre .1 .1) (pre .0) (pre .1 .0) _ (c .parent-of .ensures)
 
 end-at-requires-2 : tie.Need-end-at-requires-2
-end-at-requires-2 c κs = let pre = c .before .before .before .before .pre in parent-readable _ _ (pre .1 .1) (pre .0) (pre .1 .0) _ (c .before .parent-of .ensures)
+end-at-requires-2 c κs =
+    let start = c .before .before .before .before in
+    let pre = start .pre in parent-readable _ _ (pre .1 .1) (pre .0) (pre .1 .0) _ (c .before .parent-of .ensures)
 
 next-of-requires : tie.Need-next-of-requires
 next-of-requires c κs = search needs

@@ -21,7 +21,10 @@ end-at-requires : tie.Need-end-at-requires Inv-loop μ-loop
 end-at-requires c κs = let pre = c .before .before .pre in record { long = pre .0 .long; there = omega (arith, pre .0 .there, c .loop .inv .before) }
 
 parent-at-requires : tie.Need-parent-at-requires Inv-loop μ-loop
-parent-at-requires c κs = let pre = c .before .before .before .before .pre in record { long = pre .0 .long; there = omega (arith, pre .0 .there, c .before .before .loop .inv .before) }
+parent-at-requires c κs =
+    let at-loop = c .before .before in
+    let start = at-loop .before .before in
+    let pre = start .pre in record { long = pre .0 .long; there = omega (arith, pre .0 .there, at-loop .loop .inv .before) }
 
 loop-less : tie.Need-loop-less Inv-loop μ-loop
 loop-less c =
@@ -37,8 +40,10 @@ loop-again c =
 
 returns : tie.Need-returns Inv-loop μ-loop
 returns c =
-    let pre = c .before .before .before .before .pre in
-    climb-found _ _ (pre .1 .0) (pre .0 .there) (pre .1 .1) _ _ (c .before .before .loop .inv) (c .before .end-at .ensures) (c .if1 .left)
+    let at-loop = c .before .before in
+    let start = at-loop .before .before in
+    let pre = start .pre in
+    climb-found _ _ (pre .1 .0) (pre .0 .there) (pre .1 .1) _ _ (at-loop .loop .inv) (c .before .end-at .ensures) (c .if1 .left)
 
 pub parent-of-spec : {M : Type 1} → statement M
 parent-of-spec =

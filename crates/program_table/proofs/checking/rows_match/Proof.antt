@@ -32,13 +32,16 @@ parts-requires c κs = search needs
 
 rows-holds : tie.Need-rows-holds Inv-loop μ-loop Inv-rows μ-rows
 rows-holds c =
-    let pre = c .before .before .before .before .pre in
-    (refl, (omega arith, rows-first _ _ (c .parts .ensures) (pre .1) (pre .0 .there) _ (c .before .before .root-matches .ensures) (c .before .if1 .left)))
+    let after-root-matches = c .before .before in
+    let start = after-root-matches .before .before in
+    let pre = start .pre in
+    (refl, (omega arith, rows-first _ _ (c .parts .ensures) (pre .1) (pre .0 .there) _ (after-root-matches .root-matches .ensures) (c .before .if1 .left)))
 
 links-of-requires : tie.Need-links-of-requires Inv-loop μ-loop Inv-rows μ-rows
 links-of-requires c κs =
     let rows = c .before in
-    (record { long = rows .before .before .before .before .before .pre .0 .long; there = omega (arith, c .rows-test .taken, rows .before .parts .ensures) }, (rows .rows .inv .1 .0, rows .rows .inv .1 .1 .agreeing))
+    let start = rows .before .before .before .before .before in
+    (record { long = start .pre .0 .long; there = omega (arith, c .rows-test .taken, rows .before .parts .ensures) }, (rows .rows .inv .1 .0, rows .rows .inv .1 .1 .agreeing))
 
 row-place-requires : tie.Need-row-place-requires Inv-loop μ-loop Inv-rows μ-rows
 row-place-requires c κs = search needs
@@ -48,18 +51,23 @@ loop-holds c = (c .before .before .before .rows .inv .0, row-first _ _)
 
 implied-requires : tie.Need-implied-requires Inv-loop μ-loop Inv-rows μ-rows
 implied-requires c κs =
-    let turn = c .before .before .before .before in
+    let after-links-of = c .before .before .before in
+    let turn = after-links-of .before in
     let rows = turn .before in
-    (record { long = rows .before .before .before .before .before .pre .0 .long; there = omega (arith, turn .rows-test .taken, rows .before .parts .ensures) }, (rows .rows .inv .1 .1 .agreeing .ending, (c .before .before .before .links-of .ensures, c .loop-test .taken)))
+    let start = rows .before .before .before .before .before in
+    (record { long = start .pre .0 .long; there = omega (arith, turn .rows-test .taken, rows .before .parts .ensures) }, (rows .rows .inv .1 .1 .agreeing .ending, (after-links-of .links-of .ensures, c .loop-test .taken)))
 
 add-if2 : tie.Need-add-if2 Inv-loop μ-loop Inv-rows μ-rows
 add-if2 c = search needs
 
 shared-slice-read-if2 : tie.Need-shared-slice-read-if2 Inv-loop μ-loop Inv-rows μ-rows
 shared-slice-read-if2 c =
-    let turn = c .before .before .before .before .before .before in
+    let in-loop = c .before .before in
+    let after-row-place = in-loop .before .before in
+    let turn = after-row-place .before .before in
     let rows = turn .before in
-    omega (arith, rows .before .before .before .before .before .pre .0 .long, turn .rows-test .taken, rows .before .parts .ensures, c .before .before .loop-test .taken, c .before .before .before .before .row-place .ensures)
+    let start = rows .before .before .before .before .before in
+    omega (arith, start .pre .0 .long, turn .rows-test .taken, rows .before .parts .ensures, in-loop .loop-test .taken, after-row-place .row-place .ensures)
 
 add-j : tie.Need-add-j Inv-loop μ-loop Inv-rows μ-rows
 add-j c = search needs
@@ -81,7 +89,8 @@ rows-less c = search needs
 rows-again : tie.Need-rows-again Inv-loop μ-loop Inv-rows μ-rows
 rows-again c =
     let turn = c .before .before .before .before in
-    (c .before .loop .inv .0, (omega (arith, turn .before .rows .inv .1 .0), rows-next _ _ (turn .before .before .parts .ensures) _ (turn .before .rows .inv .1 .1) (turn .rows-test .taken) (all-end _ _ _ _ (c .loop-test .left) (c .before .loop .inv .1))))
+    let after-parts = turn .before .before in
+    (c .before .loop .inv .0, (omega (arith, turn .before .rows .inv .1 .0), rows-next _ _ (after-parts .parts .ensures) _ (turn .before .rows .inv .1 .1) (turn .rows-test .taken) (all-end _ _ _ _ (c .loop-test .left) (c .before .loop .inv .1))))
 
 returns : tie.Need-returns Inv-loop μ-loop Inv-rows μ-rows
 returns c = let pre = c .before .before .before .pre in root-differs _ _ refl (pre .1) (pre .0 .there) _ (c .before .root-matches .ensures) (c .if1 .taken)
@@ -91,10 +100,13 @@ returns-2 c = c .before .rows .inv .0 ∙ rows-end _ _ (c .before .before .parts
 
 returns-3 : tie.Need-returns-3 Inv-loop μ-loop Inv-rows μ-rows
 returns-3 c =
-    let byte = c .before .before .before in
-    let turn = byte .before .before .before .before in
-    rows-differ _ _ (turn .before .before .parts .ensures) _ (turn .before .rows .inv .1 .1) (turn .rows-test .taken)
-    (all-fails _ _ _ _ (byte .loop-test .taken) (byte-differs _ _ _ _ _ (byte .before .before .row-place .ensures) (c .before .before .implied .ensures) (c .if2 .taken)) (byte .before .loop .inv .1))
+    let after-implied = c .before .before in
+    let byte = after-implied .before in
+    let after-row-place = byte .before .before in
+    let turn = after-row-place .before .before in
+    let after-parts = turn .before .before in
+    rows-differ _ _ (after-parts .parts .ensures) _ (turn .before .rows .inv .1 .1) (turn .rows-test .taken)
+    (all-fails _ _ _ _ (byte .loop-test .taken) (byte-differs _ _ _ _ _ (after-row-place .row-place .ensures) (after-implied .implied .ensures) (c .if2 .taken)) (byte .before .loop .inv .1))
 
 pub rows-match-spec : {M : Type 1} → statement M
 rows-match-spec =

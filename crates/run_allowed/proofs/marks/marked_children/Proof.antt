@@ -35,7 +35,9 @@ end-at-requires-2 : tie.Need-end-at-requires-2 Inv-loop μ-loop
 end-at-requires-2 c κs = search count-held
 
 loop-less : tie.Need-loop-less Inv-loop μ-loop
-loop-less c = let h : c .before .before .before .before .loop .q < c .end-at2 .result = search count-later in search needs
+loop-less c =
+    let at-loop = c .before .before .before .before in
+    let h : at-loop .loop .q < c .end-at2 .result = search count-later in search needs
 
 loop-again : tie.Need-loop-again Inv-loop μ-loop
 loop-again c = search count-next

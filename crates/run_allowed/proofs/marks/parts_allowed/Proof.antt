@@ -33,7 +33,9 @@ part-after-requires : tie.Need-part-after-requires Inv-loop μ-loop
 part-after-requires c κs = search needs
 
 loop-less : tie.Need-loop-less Inv-loop μ-loop
-loop-less c = let h : c .before .before .before .before .loop .p < c .part-after .result = search parts-later in search needs
+loop-less c =
+    let at-loop = c .before .before .before .before in
+    let h : at-loop .loop .p < c .part-after .result = search parts-later in search needs
 
 loop-again : tie.Need-loop-again Inv-loop μ-loop
 loop-again c = search parts-allowed-pass

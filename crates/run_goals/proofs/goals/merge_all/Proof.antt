@@ -34,12 +34,14 @@ loop-less : tie.Need-loop-less Inv-loop μ-loop
 loop-less c = search needs
 
 loop-again : tie.Need-loop-again Inv-loop μ-loop
-loop-again c = (
-  c .before .before .merge-part .kept .1 .1 .0 ∙ c .before .before .before .before .before .loop .inv .0,
-  let a = c .before .before in
-      let l = a .before .before in
-      merge-step _ _ _ _ _ _ (l .before .before .parts .ensures) _ (l .loop-test .taken) (a .merge-part .ensures) (l .before .loop .inv .1),
-)
+loop-again c =
+    let a = c .before .before in
+    let l = a .before .before in
+    let at-loop = l .before in
+    let after-parts = at-loop .before in (
+      a .merge-part .kept .1 .1 .0 ∙ at-loop .loop .inv .0,
+      merge-step _ _ _ _ _ _ (after-parts .parts .ensures) _ (l .loop-test .taken) (a .merge-part .ensures) (at-loop .loop .inv .1),
+    )
 
 same-length : tie.Need-same-length Inv-loop μ-loop
 same-length c = c .before .loop .inv .0

@@ -37,7 +37,8 @@ loop-holds c = (search needs, (refl, refl))
 initialise-step-requires : tie.Need-initialise-step-requires Inv-loop μ-loop
 initialise-step-requires c κs =
     let ended = c .before .before .before in
-    let pre = ended .before .before .before .before .before .before .before .before .pre in
+    let start = ended .before .before .before .before .before .before .before .before in
+    let pre = start .pre in
     (search needs, (search needs, (turn-there _ _ (pre .0) (pre .1 .0) _ _ (ended .end-at .ensures) (c .before .loop-test .taken), search needs)))
 
 add-p-2 : tie.Need-add-p-2 Inv-loop μ-loop
@@ -47,23 +48,29 @@ loop-less : tie.Need-loop-less Inv-loop μ-loop
 loop-less c = search needs
 
 loop-again : tie.Need-loop-again Inv-loop μ-loop
-loop-again c = (
-  search needs,
-  (
-    c .before .before .initialise-step .kept .1 .0 ∙ c .before .before .before .before .before .loop .inv .1 .0,
-    let l = c .before .before .before .before in
-        initial-next _ _ _ _ _ _ _ _ _ (l .loop-test .taken) (c .before .before .initialise-step .ensures) (l .before .loop .inv .1 .1),
-  ),
-)
+loop-again c =
+    let after-initialise-step = c .before .before in
+    let l = after-initialise-step .before .before in
+    let at-loop = l .before in (
+      search needs,
+      (
+        after-initialise-step .initialise-step .kept .1 .0 ∙ at-loop .loop .inv .1 .0,
+        initial-next _ _ _ _ _ _ _ _ _ (l .loop-test .taken) (after-initialise-step .initialise-step .ensures) (at-loop .loop .inv .1 .1),
+      ),
+    )
 
 same-length : tie.Need-same-length Inv-loop μ-loop
-same-length c = c .before .loop .inv .1 .0 ∙ c .before .before .before .before .before .store .kept .0
+same-length c =
+    let after-store = c .before .before .before .before .before in
+    c .before .loop .inv .1 .0 ∙ after-store .store .kept .0
 
 returns : tie.Need-returns Inv-loop μ-loop
 returns c =
     let e = c .before .before in
+    let after-store = e .before .before .before in
+    let after-index = after-store .before in
     initial-ends _ _ _ _ _ _ _ (c .loop-test .left) (c .before .loop .inv .1 .1)
-    ∙ initial-starts _ _ _ _ _ _ _ (e .before .before .before .before .index .ensures) (e .end-at .ensures) (e .before .before .before .store .ensures)
+    ∙ initial-starts _ _ _ _ _ _ _ (after-index .index .ensures) (e .end-at .ensures) (after-store .store .ensures)
 
 pub initialise-spec : {M : Type 1} → statement M
 initialise-spec =

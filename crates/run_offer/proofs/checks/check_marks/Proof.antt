@@ -33,13 +33,15 @@ loop-less : tie.Need-loop-less Inv-loop μ-loop
 loop-less c = search needs
 
 loop-again : tie.Need-loop-again Inv-loop μ-loop
-loop-again c = (
-  c .before .before .check-part .kept .1 .0 ∙ c .before .before .before .before .before .loop .inv .0,
-  let a = c .before .before in
-      let l = a .before .before in
-      let f = l .before .before in
-      checked-step _ _ _ _ _ _ _ _ _ (f .before .before .before .pre .0) (f .parts .ensures) (l .loop-test .taken) (a .check-part .ensures .1) (a .check-part .ensures .0) (l .before .loop .inv .1),
-)
+loop-again c =
+    let a = c .before .before in
+    let l = a .before .before in
+    let at-loop = l .before in
+    let f = at-loop .before in
+    let start = f .before .before .before in (
+      a .check-part .kept .1 .0 ∙ at-loop .loop .inv .0,
+      checked-step _ _ _ _ _ _ _ _ _ (start .pre .0) (f .parts .ensures) (l .loop-test .taken) (a .check-part .ensures .1) (a .check-part .ensures .0) (at-loop .loop .inv .1),
+    )
 
 same-length : tie.Need-same-length Inv-loop μ-loop
 same-length c = c .before .loop .inv .0

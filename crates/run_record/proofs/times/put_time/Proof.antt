@@ -46,7 +46,8 @@ returns c =
     let p3 = p4 .before .before .before .before in
     let p2 = p3 .before .before .before .before in
     let p1 = p2 .before .before .before .before in
-    let given = p1 .before .before .before .args in
+    let start = p1 .before .before .before in
+    let given = start .args in
     time-stored (given .r .now) _ _ _ _ (given .i) (given .x) (p1 .store .ensures) (p2 .store2 .ensures) (p3 .store3 .ensures) (p4 .store4 .ensures)
 
 pub put-time-spec : {M : Type 1} → statement M
