@@ -10,6 +10,7 @@ pub mod sizes;
 pub mod board;
 pub mod builder;
 pub mod cases;
+pub mod counts;
 pub mod damage;
 pub mod examples;
 pub mod executive;

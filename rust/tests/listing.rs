@@ -4,6 +4,7 @@ use std::thread::sleep;
 use std::time::Duration;
 
 use gurvoke::cases::{any_program, program, Shape};
+use gurvoke::counts::{assert_counts, named};
 use gurvoke::damage::{damaged_file, random_file};
 use gurvoke::examples;
 use gurvoke::hex::hex;
@@ -113,6 +114,7 @@ fn input_longer_than_any_file() {
 #[test]
 fn random_inputs() {
     let mut rng = Rng::new(202);
+    let mut seen = 0;
     let mut accepted = 0;
     for number in 0..210 {
         let draft = any_program(&mut rng);
@@ -121,8 +123,13 @@ fn random_inputs() {
             1 => damaged_file(&mut rng, &draft),
             _ => random_file(&mut rng),
         };
-        accepted += usize::from(model::read(&file).is_ok());
+        seen += 1;
+        accepted += u64::from(model::read(&file).is_ok());
         assert_as_model(&file);
     }
-    assert!((70..200).contains(&accepted), "{accepted} were accepted");
+    let counts = named([
+        ("random files", seen),
+        ("random files that are accepted", accepted),
+    ]);
+    assert_counts(file!(), "random_inputs", &counts);
 }

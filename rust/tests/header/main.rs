@@ -6,6 +6,7 @@ mod macros;
 use std::collections::BTreeMap;
 
 use gurvoke::answers::{self, ANSWERED, CONTESTED, DONE, NO_GOAL, NO_VARIABLE};
+use gurvoke::counts::{assert_counts, named};
 use gurvoke::parts::{Kind, Test};
 use gurvoke::record::{self, Phase};
 use gurvoke::refusals::{self, FILE_TOO_SHORT, NOTHING_AT_WORK};
@@ -169,7 +170,8 @@ fn numbers_of_the_proved_code() {
         let found = code.contains_key(name) || ONLY_IN_C.contains(&&name[..]);
         assert!(found, "the proved code has no number for GURVOKE_{name}");
     }
-    assert!(code.len() >= 65, "only {} numbers are found", code.len());
+    let counts = named([("numbers", code.len() as u64)]);
+    assert_counts(file!(), "numbers_of_the_proved_code", &counts);
 }
 
 /// The refusals of the proved code are the paper's 15, in their order, and each has its number.

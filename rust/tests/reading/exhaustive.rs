@@ -4,12 +4,9 @@ mod changes;
 mod symbols;
 
 use gurvoke::answers::DONE;
+use gurvoke::counts::assert_counts;
 use gurvoke::model;
 use gurvoke::parts::{GOAL, SEQ};
-use gurvoke::refusals::{
-    BUFFER_TOO_SHORT, FILE_TOO_SHORT, NOT_A_TABLE, NOT_ONE_TREE, OPERAND_NOT_ALLOWED,
-    SIZE_OUT_OF_RANGE, UNKNOWN_KIND, WRONG_LENGTH,
-};
 use gurvoke::rng::Rng;
 use gurvoke::sizes::{file_len, table_len, MAX_TABLE_LEN, SIZES_LEN};
 
@@ -30,16 +27,7 @@ fn files_of_up_to_three_parts() {
             }
         }
     }
-    tally.require(
-        "files of up to three parts",
-        &[
-            (DONE, 1000),
-            (UNKNOWN_KIND, 10_000),
-            (OPERAND_NOT_ALLOWED, 10_000),
-            (NOT_ONE_TREE, 1000),
-            (BUFFER_TOO_SHORT, 1000),
-        ],
-    );
+    assert_counts(file!(), "files_of_up_to_three_parts", &tally.counts());
 }
 
 /// Files with nothing wrong but perhaps their tree. Those accepted are exactly as many as trees.
@@ -55,7 +43,7 @@ fn trees_of_up_to_five_parts() {
         }
     }
     let trees: usize = (1..=5).map(tree_count).sum();
-    tally.require("trees of up to five parts", &[(NOT_ONE_TREE, 10_000)]);
+    assert_counts(file!(), "trees_of_up_to_five_parts", &tally.counts());
     tally.require_exactly("trees of up to five parts", DONE, trees as u64);
 }
 
@@ -78,15 +66,7 @@ fn operands_of_one_part() {
             }
         }
     }
-    tally.require(
-        "operands of one part",
-        &[
-            (DONE, 400),
-            (UNKNOWN_KIND, 10_000),
-            (OPERAND_NOT_ALLOWED, 10_000),
-            (NOT_ONE_TREE, 400),
-        ],
-    );
+    assert_counts(file!(), "operands_of_one_part", &tally.counts());
 }
 
 /// Every number of parts with sizes about their limits, and lengths about the right one.
@@ -113,16 +93,7 @@ fn sizes_and_lengths() {
             tally.note(check_compile(&mut rng, &[first, 1][..len], MAX_TABLE_LEN));
         }
     }
-    tally.require(
-        "sizes and lengths",
-        &[
-            (DONE, 1000),
-            (FILE_TOO_SHORT, 500),
-            (SIZE_OUT_OF_RANGE, 10_000),
-            (WRONG_LENGTH, 5000),
-            (BUFFER_TOO_SHORT, 1000),
-        ],
-    );
+    assert_counts(file!(), "sizes_and_lengths", &tally.counts());
 }
 
 /// Numbers of variables and clocks, allowed and just not.
@@ -170,7 +141,7 @@ fn tables_of_up_to_two_parts() {
         }
     }
     let trees = tree_count(1) + tree_count(2);
-    tally.require("tables of up to two parts", &[(NOT_A_TABLE, 100_000)]);
+    assert_counts(file!(), "tables_of_up_to_two_parts", &tally.counts());
     tally.require_exactly("tables of up to two parts", DONE, trees as u64);
 }
 

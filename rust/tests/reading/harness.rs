@@ -1,6 +1,7 @@
 //! Calls of the executives that are compared with the model in every byte.
 
 use gurvoke::answers::DONE;
+use gurvoke::counts::{named, Counts};
 use gurvoke::executive::{Executive, ALL};
 use gurvoke::hex::hex;
 use gurvoke::lent::Lent;
@@ -178,17 +179,13 @@ impl Tally {
         self.counts[number as usize] += 1;
     }
 
-    /// Fails unless each answer named was given at least so often.
-    pub fn require(&self, name: &str, minimums: &[(u32, u64)]) {
-        let total: u64 = self.counts.iter().sum();
-        println!("{name}: {total} calls, by answer {:?}", self.counts);
-        for &(answer, minimum) in minimums {
-            let count = self.counts[answer as usize];
-            assert!(
-                count >= minimum,
-                "{name}: answer {answer} came {count} times, and should at least {minimum} times"
-            );
+    /// What was counted, as the list of counts names it.
+    pub fn counts(&self) -> Counts {
+        let mut counts = named([("calls", self.counts.iter().sum())]);
+        for (answer, count) in self.counts.iter().enumerate() {
+            counts.push((format!("answers {answer}"), *count));
         }
+        counts
     }
 
     /// Fails unless the answer named was given exactly so often.

@@ -1,35 +1,15 @@
 //! Random programs, files and tables, valid and damaged.
 
-use gurvoke::answers::DONE;
 use gurvoke::cases::{any_program, program, Shape};
+use gurvoke::counts::{assert_counts, named};
 use gurvoke::damage::{damaged_file, damaged_table, random_file, random_table, wrap_rows};
 use gurvoke::hex::hex;
 use gurvoke::model;
-use gurvoke::refusals::{
-    BUFFER_TOO_SHORT, FILE_TOO_SHORT, NOT_A_TABLE, NOT_ONE_TREE, OPERAND_NOT_ALLOWED,
-    SIZE_OUT_OF_RANGE, TOO_DEEP, UNKNOWN_KIND, WRONG_LENGTH,
-};
+use gurvoke::refusals::{NOT_A_TABLE, TOO_DEEP};
 use gurvoke::rng::Rng;
 use gurvoke::sizes::{Sizes, MAX_DEPTH, MAX_PARTS};
 
 use crate::harness::{check_compile, check_decompile, check_file, check_table, Tally};
-
-/// The answers that readings of small files get; only a deep one is too deep.
-const COMMON_ANSWERS: [u32; 8] = [
-    DONE,
-    FILE_TOO_SHORT,
-    SIZE_OUT_OF_RANGE,
-    WRONG_LENGTH,
-    UNKNOWN_KIND,
-    OPERAND_NOT_ALLOWED,
-    NOT_ONE_TREE,
-    BUFFER_TOO_SHORT,
-];
-
-/// How often each of many answers must come at least.
-fn often(answer: u32) -> (u32, u64) {
-    (answer, 500)
-}
 
 /// Programs that are valid by the way they are made.
 #[test]
@@ -44,16 +24,17 @@ fn valid_programs() {
         let answer = check_file(&mut rng, &mut tally, &file);
         assert_eq!(answer, Ok(()), "valid program {}", hex(&file));
         let program = model::read(&file).expect("accepted just before");
-        smallest += usize::from(program.sizes.parts == 1);
-        largest += usize::from(program.sizes.parts == MAX_PARTS);
-        deepest += usize::from(program.root.depth() == MAX_DEPTH);
+        smallest += u64::from(program.sizes.parts == 1);
+        largest += u64::from(program.sizes.parts == MAX_PARTS);
+        deepest += u64::from(program.root.depth() == MAX_DEPTH);
     }
-    println!("{smallest} with one part, {largest} with most parts, {deepest} of greatest depth");
-    assert!(smallest >= 500 && largest >= 300 && deepest >= 1000);
-    tally.require(
-        "valid programs",
-        &[(DONE, 60_000), (BUFFER_TOO_SHORT, 60_000)],
-    );
+    let sizes = named([
+        ("programs of one part", smallest),
+        ("programs of most parts", largest),
+        ("programs of greatest depth", deepest),
+    ]);
+    let counts = [tally.counts(), sizes].concat();
+    assert_counts(file!(), "valid_programs", &counts);
 }
 
 /// Deep programs: accepted up to the depth allowed, refused below it, as files and as tables.
@@ -73,10 +54,7 @@ fn depths_about_the_limit() {
             assert_eq!(answer, expected, "depth {depth}: {}", hex(&file));
         }
     }
-    tally.require(
-        "depths about the limit",
-        &[(DONE, 5000), (TOO_DEEP, 10_000)],
-    );
+    assert_counts(file!(), "depths_about_the_limit", &tally.counts());
 }
 
 /// The rows of a program with a REPEAT put above it: a table unless it is too deep or too long.
@@ -99,10 +77,7 @@ fn tables_about_the_limits() {
         let answer = check_table(&mut rng, &mut tally, &table);
         assert_eq!(answer, expected, "{}", hex(&table));
     }
-    tally.require(
-        "tables about the limits",
-        &[(DONE, 2000), (BUFFER_TOO_SHORT, 2000), (NOT_A_TABLE, 1000)],
-    );
+    assert_counts(file!(), "tables_about_the_limits", &tally.counts());
 }
 
 #[test]
@@ -114,9 +89,7 @@ fn damaged_files() {
         let file = damaged_file(&mut rng, &draft);
         check_any_file(&mut rng, &mut tally, &file);
     }
-    let answers = [&COMMON_ANSWERS[..], &[TOO_DEEP]].concat();
-    let often: Vec<(u32, u64)> = answers.into_iter().map(often).collect();
-    tally.require("damaged files", &often);
+    assert_counts(file!(), "damaged_files", &tally.counts());
 }
 
 #[test]
@@ -127,7 +100,7 @@ fn random_files() {
         let file = random_file(&mut rng);
         check_any_file(&mut rng, &mut tally, &file);
     }
-    tally.require("random files", &COMMON_ANSWERS.map(often));
+    assert_counts(file!(), "random_files", &tally.counts());
 }
 
 #[test]
@@ -140,14 +113,7 @@ fn damaged_tables() {
         let table = damaged_table(&mut rng, &program);
         check_any_table(&mut rng, &mut tally, &table);
     }
-    tally.require(
-        "damaged tables",
-        &[
-            (DONE, 2000),
-            (BUFFER_TOO_SHORT, 2000),
-            (NOT_A_TABLE, 20_000),
-        ],
-    );
+    assert_counts(file!(), "damaged_tables", &tally.counts());
 }
 
 #[test]
@@ -158,10 +124,7 @@ fn random_tables() {
         let table = random_table(&mut rng);
         check_any_table(&mut rng, &mut tally, &table);
     }
-    tally.require(
-        "random tables",
-        &[(DONE, 200), (BUFFER_TOO_SHORT, 200), (NOT_A_TABLE, 20_000)],
-    );
+    assert_counts(file!(), "random_tables", &tally.counts());
 }
 
 /// Compares one call into a buffer of random length or, for one file in ten, all that can be done

@@ -4,6 +4,7 @@ use std::ffi::OsStr;
 
 use gurvoke::builder::{file, goal, par};
 use gurvoke::cases::any_program;
+use gurvoke::counts::assert_counts;
 use gurvoke::damage::{damaged_file, random_file};
 use gurvoke::examples;
 use gurvoke::programs::{free_path, TemporaryFile};
@@ -89,19 +90,7 @@ fn random_programs() {
             with_parts: rng.one_in(2),
         });
     }
-    tally.require(
-        "random programs",
-        &[
-            ("phase", 25),
-            ("goals", 50),
-            ("refused 1", 3),
-            ("refused 2", 5),
-            ("refused 3", 15),
-            ("refused 4", 5),
-            ("refused 5", 10),
-            ("refused 6", 25),
-        ],
-    );
+    assert_counts(file!(), "random_programs", &tally.counts());
 }
 
 /// Expects that the program ends and prints nothing.

@@ -4,6 +4,7 @@ use std::collections::BTreeMap;
 use std::ffi::OsStr;
 use std::path::Path;
 
+use gurvoke::counts::{named, Counts};
 use gurvoke::hex::hex;
 use gurvoke::programs::{Program, TemporaryFile};
 use gurvoke::rehearsal::Rehearsal;
@@ -87,28 +88,20 @@ impl Tally {
     }
 
     /// Answers to calls.
-    pub fn answers(&self) -> u64 {
+    fn answers(&self) -> u64 {
         let answers = ["begun", "goals", "contested", "running", "finished"];
         let refused = self.lines.keys().filter(|kind| kind.starts_with("refused"));
         let refused: u64 = refused.map(|kind| self.count(kind)).sum();
         refused + answers.iter().map(|kind| self.count(kind)).sum::<u64>()
     }
 
-    /// Fails unless each kind of line named was printed at least so often.
-    pub fn require(&self, name: &str, minimums: &[(&str, u64)]) {
-        println!(
-            "{name}: {} rehearsals, {} answers; lines {:?}",
-            self.rehearsals,
-            self.answers(),
-            self.lines
-        );
-        for (kind, minimum) in minimums {
-            let count = self.count(kind);
-            assert!(
-                count >= *minimum,
-                "{name}: {kind:?} came {count} times, and should at least {minimum} times"
-            );
+    /// What was counted, as the list of counts names it.
+    pub fn counts(&self) -> Counts {
+        let mut counts = named([("rehearsals", self.rehearsals), ("answers", self.answers())]);
+        for (kind, count) in &self.lines {
+            counts.push((format!("lines {kind}"), *count));
         }
+        counts
     }
 }
 

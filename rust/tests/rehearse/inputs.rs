@@ -3,6 +3,7 @@
 use std::thread::sleep;
 use std::time::Duration;
 
+use gurvoke::counts::{assert_counts, named};
 use gurvoke::programs::{feed, TemporaryFile};
 use gurvoke::rehearsal::{Rehearsal, MAX_LINE};
 use gurvoke::rng::Rng;
@@ -44,6 +45,9 @@ fn long_input() {
     let rehearsal = station_1(long_list());
     let whole = text.clone() + summary;
     assert_both(&rehearsal, &whole);
+    let answers = text.lines().count() as u64;
+    let counts = named([("calls in the longest rehearsal", answers)]);
+    assert_counts(file!(), "long_input", &counts);
 
     let mut calls = long_list();
     calls.extend(b"settled 01\noffer 100000\n");
@@ -164,12 +168,16 @@ fn longest_lines() {
                 let text = assert_as_model(&station_1(calls));
                 let cut = text.ends_with("not a call\n");
                 assert!(cut || len <= MAX_LINE, "a line of {len} bytes");
-                ended += usize::from(cut);
-                went_on += usize::from(!cut);
+                ended += u64::from(cut);
+                went_on += u64::from(!cut);
             }
         }
     }
-    assert!(ended >= 54 && went_on >= 36, "{ended}, {went_on}");
+    let counts = named([
+        ("lists that end at a long line", ended),
+        ("lists that go on after a long line", went_on),
+    ]);
+    assert_counts(file!(), "longest_lines", &counts);
 }
 
 /// Lines that are much longer than the longest.

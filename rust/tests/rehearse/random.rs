@@ -1,6 +1,7 @@
 //! Random programs with random lists of calls, whole and damaged.
 
 use gurvoke::cases::Shape;
+use gurvoke::counts::assert_counts;
 use gurvoke::rehearsal::Rehearsal;
 use gurvoke::rng::Rng;
 use gurvoke::runs;
@@ -38,32 +39,14 @@ fn check_scripts(seed: u64, count: usize, program: impl Fn(&mut Rng) -> Vec<u8>)
 #[test]
 fn any_programs() {
     let tally = check_scripts(600, 800, runs::program);
-    assert!(tally.answers() >= 150_000);
-    tally.require(
-        "any programs",
-        &[
-            ("begun", 5000),
-            ("goals", 30_000),
-            ("contested", 2000),
-            ("running", 30_000),
-            ("finished", 2000),
-            ("parts", 50_000),
-            ("refused 8", 1000),
-            ("refused 10", 200),
-            ("refused 11", 3000),
-            ("refused 12", 1000),
-            ("refused 13", 3000),
-            ("refused 14", 3000),
-        ],
-    );
+    assert_counts(file!(), "any_programs", &tally.counts());
 }
 
 /// Programs in which conditions break just as clocks come due.
 #[test]
 fn doubtful_programs() {
     let tally = check_scripts(601, 300, runs::doubtful_program);
-    let often = [("begun", 1000), ("finished", 1000), ("running", 10_000)];
-    tally.require("doubtful programs", &often);
+    assert_counts(file!(), "doubtful_programs", &tally.counts());
 }
 
 /// Small programs, which finish often.
@@ -74,8 +57,7 @@ fn small_programs() {
         let depth = rng.between(2, 4);
         runs::program_of(rng, parts, depth, Shape::Mixed)
     });
-    let often = [("begun", 3000), ("finished", 2000), ("running", 5000)];
-    tally.require("small programs", &often);
+    assert_counts(file!(), "small_programs", &tally.counts());
 }
 
 /// As many parts as allowed, deep and wide.
@@ -86,8 +68,7 @@ fn largest_programs() {
         let parts = rng.between(MAX_PARTS - 1, MAX_PARTS);
         runs::program_of(rng, parts, MAX_DEPTH, shape)
     });
-    let often = [("contested", 500), ("running", 3000), ("parts", 5000)];
-    tally.require("largest programs", &often);
+    assert_counts(file!(), "largest_programs", &tally.counts());
 }
 
 /// One byte of a list changed, inserted or removed.
@@ -102,9 +83,8 @@ fn damaged_scripts() {
         let calls = damaged(&mut rng, &whole.calls);
         tally.check(&Rehearsal { calls, ..whole });
     }
+    assert_counts(file!(), "damaged_scripts", &tally.counts());
     // Some damage makes no call, some makes another one or none at all.
-    let often = [("not a call", 200), ("phase", 100), ("refused 13", 200)];
-    tally.require("damaged scripts", &often);
     assert_eq!(tally.count("not a call") + tally.count("phase"), 600);
 }
 
@@ -126,8 +106,7 @@ fn every_place_damaged() {
             tally.check(&with_calls(&whole, [&longer, &back[1..]]));
         }
     }
-    let often = [("not a call", 200), ("phase", 100), ("finished", 50)];
-    tally.require("every place damaged", &often);
+    assert_counts(file!(), "every_place_damaged", &tally.counts());
     assert_eq!(tally.rehearsals, 13 * whole.calls.len() as u64);
 }
 

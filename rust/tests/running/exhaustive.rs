@@ -3,6 +3,7 @@
 use gurvoke::builder::{
     at_least, below, choice, differs, equals, file, goal, maintain, par, repeat, seq, start, wait,
 };
+use gurvoke::counts::assert_counts;
 use gurvoke::executive::{Executive, ALL};
 use gurvoke::parts::{Condition, Part};
 use gurvoke::record::{Phase, RECORD_LEN};
@@ -10,7 +11,7 @@ use gurvoke::rng::Rng;
 use gurvoke::runs::Call;
 use gurvoke::unfolding::{Program, Run};
 
-use crate::harness::{Board, Tally};
+use crate::harness::{of_all_executives, Board, Tally};
 
 /// One variable with values 0 and 1, one clock with the limit 1.
 fn conditions() -> [Condition; 4] {
@@ -137,17 +138,22 @@ fn every_list_of_four_calls() {
     let [ones, twos, threes, _] = programs();
     let programs = [ones, twos, threes].concat();
     assert_eq!(programs.len(), 6 + 7 * 6 + 7 * 7 * 6 + 6 * 6 * 6);
+    let mut counts = Vec::new();
     for (executive, programs) in shares(&programs) {
         let mut tally = Tally::default();
         begin_all(executive, &programs, |rng, board, run| {
             every_list(rng, &mut tally, (&board, &run), &calls, 4)
         });
-        let often = [11, 12, 13, 14].map(|refusal| (refusal, 1000));
-        tally.require(executive.name, &often);
         // Each list that is not empty ends with a call of its own.
         let lists = 6 + 6 * 6 + 6 * 6 * 6 + 6 * 6 * 6 * 6;
         assert_eq!(tally.calls(), 2 * lists * programs.len() as u64);
+        counts.push(tally.counts());
     }
+    assert_counts(
+        file!(),
+        "every_list_of_four_calls",
+        &of_all_executives(&counts),
+    );
 }
 
 /// Makes every list of up to `cycles` cycles with no refused call.
@@ -172,7 +178,11 @@ fn every_cycle(rng: &mut Rng, tally: &mut Tally, (board, run): (&Board, &Run), c
 #[test]
 fn every_list_of_five_cycles() {
     let [ones, twos, threes, _] = programs();
-    check_cycles(&[ones, twos, threes].concat(), 5, 700_000);
+    check_cycles(
+        "every_list_of_five_cycles",
+        &[ones, twos, threes].concat(),
+        5,
+    );
 }
 
 /// Every list of up to three cycles for every program of four parts.
@@ -184,18 +194,18 @@ fn every_list_of_three_cycles() {
         fours.len(),
         7 * threes.len() + 6 * 2 * pairs + 2 * 6 * 6 * 6
     );
-    check_cycles(&fours, 3, 1_400_000);
+    check_cycles("every_list_of_three_cycles", &fours, 3);
 }
 
-fn check_cycles(programs: &[Part], cycles: usize, least: u64) {
-    for (place, (executive, share)) in shares(programs).into_iter().enumerate() {
+fn check_cycles(test: &str, programs: &[Part], cycles: usize) {
+    let mut counts = Vec::new();
+    for (executive, share) in shares(programs) {
         let mut tally = Tally::default();
         begin_all(executive, &share, |rng, board, run| {
             every_cycle(rng, &mut tally, (&board, &run), cycles)
         });
-        tally.require(executive.name, &[]);
         assert_eq!(tally.calls(), tally.offers + tally.running + tally.finished);
-        assert!(tally.running > 0 && tally.finished > 0);
-        assert!(place > 0 || tally.calls() >= least);
+        counts.push(tally.counts());
     }
+    assert_counts(file!(), test, &of_all_executives(&counts));
 }

@@ -1,6 +1,7 @@
 //! Calls of an executive that are compared with the unfolding in every byte.
 
 use gurvoke::answers::{self, ANSWERED, DONE, NO_VARIABLE};
+use gurvoke::counts::{named, Counts};
 use gurvoke::executive::Executive;
 use gurvoke::hex::hex;
 use gurvoke::lent::Lent;
@@ -235,6 +236,22 @@ impl Board {
     }
 }
 
+/// What the first executive came to, and what each other one did: these are given the same calls.
+pub fn of_all_executives(counts: &[Counts]) -> Counts {
+    let (first, others) = counts.split_first().expect("an executive");
+    let mut all = first.clone();
+    for other in others {
+        assert_eq!(
+            other, &others[0],
+            "the plain executives are given the same calls"
+        );
+    }
+    for (what, number) in &others[0] {
+        all.push((format!("{what} (each plain executive)"), *number));
+    }
+    all
+}
+
 /// How often each answer was given.
 #[derive(Default)]
 pub struct Tally {
@@ -264,25 +281,19 @@ impl Tally {
         refused + self.offers + self.running + self.finished
     }
 
-    /// Fails unless each refusal named came at least so often.
-    pub fn require(&self, name: &str, minimums: &[(u32, u64)]) {
-        println!(
-            "{name}: {} calls; {} offers, {} of them contested; {} settlings running, {} finished; \
-             refusals {:?}",
-            self.calls(),
-            self.offers,
-            self.contested,
-            self.running,
-            self.finished,
-            self.refusals
-        );
-        for &(refusal, minimum) in minimums {
-            let count = self.refusals[refusal as usize];
-            assert!(
-                count >= minimum,
-                "{name}: refusal {refusal} came {count} times, and should at least {minimum} times"
-            );
+    /// What was counted, as the list of counts names it.
+    pub fn counts(&self) -> Counts {
+        let mut counts = named([
+            ("calls", self.calls()),
+            ("offers", self.offers),
+            ("offers with a contested variable", self.contested),
+            ("settlings that tell running", self.running),
+            ("settlings that tell finished", self.finished),
+        ]);
+        for (refusal, count) in self.refusals.iter().enumerate() {
+            counts.push((format!("refusals {refusal}"), *count));
         }
+        counts
     }
 }
 

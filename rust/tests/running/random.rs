@@ -2,13 +2,12 @@
 
 use gurvoke::answers::DONE;
 use gurvoke::cases::Shape;
+use gurvoke::counts::{assert_counts, named, Counts};
 use gurvoke::executive::{Executive, ALL};
 use gurvoke::hex::hex;
 use gurvoke::model;
 use gurvoke::record::RECORD_LEN;
-use gurvoke::refusals::{
-    BUFFER_TOO_SHORT, ESTIMATE_NOT_ALLOWED, RUN_FINISHED, TIME_BEFORE_LAST, WRONG_PHASE,
-};
+use gurvoke::refusals::{BUFFER_TOO_SHORT, ESTIMATE_NOT_ALLOWED};
 use gurvoke::rng::Rng;
 use gurvoke::runs::{self, Caller};
 use gurvoke::sizes::{MAX_DEPTH, MAX_PARTS};
@@ -19,32 +18,23 @@ use crate::harness::{is_over, Board, Given, Tally};
 /// The first executive gets every run, each other one in this many.
 const SHARE: usize = 10;
 
-/// The refusals that a run can get once it has begun.
-const REFUSALS: [u32; 5] = [
-    BUFFER_TOO_SHORT,
-    WRONG_PHASE,
-    TIME_BEFORE_LAST,
-    ESTIMATE_NOT_ALLOWED,
-    RUN_FINISHED,
-];
-
 /// What the runs of one executive came to.
 #[derive(Default)]
 struct Seen {
     tally: Tally,
-    runs: usize,
-    finished: usize,
+    runs: u64,
+    finished: u64,
     /// Runs of programs with one part, with as many as allowed, and as deep as allowed.
-    smallest: usize,
-    largest: usize,
-    deepest: usize,
+    smallest: u64,
+    largest: u64,
+    deepest: u64,
     /// Runs that came to the last time there is.
-    end_of_time: usize,
+    end_of_time: u64,
     /// Offers that found a MAINTAIN violated.
-    violated: usize,
+    violated: u64,
     /// Those of them in which a clock came due inside it, and with how many at three deep or more.
-    doubtful: usize,
-    doubtful_deep: usize,
+    doubtful: u64,
+    doubtful_deep: u64,
 }
 
 impl Seen {
@@ -52,59 +42,56 @@ impl Seen {
         let parts = run.program.sizes.parts;
         let depth = model::read(file).map_or(0, |program| program.root.depth());
         self.runs += 1;
-        self.finished += usize::from(is_over(run));
-        self.smallest += usize::from(parts == 1);
-        self.largest += usize::from(parts == MAX_PARTS);
-        self.deepest += usize::from(depth == MAX_DEPTH);
-        self.end_of_time += usize::from(run.time == u32::MAX);
+        self.finished += u64::from(is_over(run));
+        self.smallest += u64::from(parts == 1);
+        self.largest += u64::from(parts == MAX_PARTS);
+        self.deepest += u64::from(depth == MAX_DEPTH);
+        self.end_of_time += u64::from(run.time == u32::MAX);
     }
 
     fn note_offer(&mut self, run: &Run) {
         let findings = runs::findings(run);
-        self.violated += usize::from(findings.violated > 0);
-        self.doubtful += usize::from(findings.doubtful > 0);
-        self.doubtful_deep += usize::from(findings.doubtful >= 3);
+        self.violated += u64::from(findings.violated > 0);
+        self.doubtful += u64::from(findings.doubtful > 0);
+        self.doubtful_deep += u64::from(findings.doubtful >= 3);
     }
 
-    fn show(&self, executive: &Executive) {
-        println!(
-            "{}: {} runs, {} finished, {} of one part, {} of most parts, {} of greatest depth, \
-             {} to the last time; {} offers with a MAINTAIN violated, {} just as a clock came \
-             due, {} of them three deep or more",
-            executive.name,
-            self.runs,
-            self.finished,
-            self.smallest,
-            self.largest,
-            self.deepest,
-            self.end_of_time,
-            self.violated,
-            self.doubtful,
-            self.doubtful_deep
-        );
+    /// What was counted, as the list of counts names it.
+    fn counts(&self) -> Counts {
+        let own = named([
+            ("runs", self.runs),
+            ("runs that finish", self.finished),
+            ("runs of one part", self.smallest),
+            ("runs of most parts", self.largest),
+            ("runs of greatest depth", self.deepest),
+            ("runs to the last time", self.end_of_time),
+            ("offers that find a MAINTAIN violated", self.violated),
+            (
+                "offers that find a MAINTAIN violated just as a clock comes due",
+                self.doubtful,
+            ),
+            ("such offers three parts deep or more", self.doubtful_deep),
+        ]);
+        [own, self.tally.counts()].concat()
     }
 }
 
-/// Runs so many programs on the first executive, and a share on each other one; gives what the
-/// first came to.
-fn check_runs(seed: u64, count: usize, program: impl Fn(&mut Rng) -> Vec<u8>) -> Seen {
-    let seen: Vec<Seen> = ALL
-        .iter()
-        .enumerate()
-        .map(|(place, &executive)| {
-            let count = if place == 0 { count } else { count / SHARE };
-            let mut rng = Rng::new(seed);
-            let mut seen = Seen::default();
-            for _ in 0..count {
-                let file = program(&mut rng);
-                check_run(&mut rng, &mut seen, executive, &file);
-            }
-            assert_eq!(seen.runs, count);
-            seen.show(executive);
-            seen
-        })
-        .collect();
-    seen.into_iter().next().expect("an executive")
+/// Runs so many programs on the first executive, and a share on each other one, and compares what
+/// the first came to with the list of counts.
+fn check_runs(test: &str, seed: u64, count: usize, program: impl Fn(&mut Rng) -> Vec<u8>) {
+    for (place, &executive) in ALL.iter().enumerate() {
+        let count = if place == 0 { count } else { count / SHARE };
+        let mut rng = Rng::new(seed);
+        let mut seen = Seen::default();
+        for _ in 0..count {
+            let file = program(&mut rng);
+            check_run(&mut rng, &mut seen, executive, &file);
+        }
+        assert_eq!(seen.runs, count as u64);
+        if place == 0 {
+            assert_counts(file!(), test, &seen.counts());
+        }
+    }
 }
 
 /// One run from its beginning.
@@ -144,52 +131,34 @@ fn check_run(rng: &mut Rng, seen: &mut Seen, executive: &'static Executive, file
 /// Programs of any size and shape.
 #[test]
 fn any_programs() {
-    let seen = check_runs(300, 50_000, runs::program);
-    let often = REFUSALS.map(|refusal| (refusal, 5000));
-    seen.tally.require("any programs", &often);
-    assert!(seen.finished >= 10_000 && seen.tally.contested >= 10_000);
-    assert!(seen.violated >= 10_000 && seen.end_of_time >= 1000);
-    assert!(seen.smallest >= 500 && seen.largest >= 500 && seen.deepest >= 500);
+    check_runs("any_programs", 300, 50_000, runs::program);
 }
 
 /// Programs made for the buyer's doubtful cycles: a condition breaks just as a clock comes due.
 #[test]
 fn doubtful_programs() {
-    let seen = check_runs(304, 30_000, runs::doubtful_program);
-    assert!(seen.finished >= 5000 && seen.violated >= 10_000);
-    assert!(seen.doubtful >= 1500 && seen.doubtful_deep >= 1000);
+    check_runs("doubtful_programs", 304, 30_000, runs::doubtful_program);
 }
 
 /// Small programs, in which a run comes to most places.
 #[test]
 fn small_programs() {
-    let seen = check_runs(301, 40_000, |rng| {
+    check_runs("small_programs", 301, 40_000, |rng| {
         let parts = rng.between(4, 10);
         let depth = rng.between(2, 6);
         let shape = rng.pick(&[Shape::Deep, Shape::Mixed]);
         runs::program_of(rng, parts, depth, shape)
     });
-    let often = REFUSALS.map(|refusal| (refusal, 4000));
-    seen.tally.require("small programs", &often);
-    assert!(seen.finished >= 10_000 && seen.violated >= 5000);
 }
 
 /// As many parts as allowed, deep and wide.
 #[test]
 fn largest_programs() {
-    let seen = check_runs(302, 1500, |rng| {
+    check_runs("largest_programs", 302, 1500, |rng| {
         let shape = rng.pick(&[Shape::Deep, Shape::Wide, Shape::Mixed]);
         let parts = rng.between(MAX_PARTS - 1, MAX_PARTS);
         runs::program_of(rng, parts, MAX_DEPTH, shape)
     });
-    // Few of these runs finish.
-    let often = REFUSALS
-        .into_iter()
-        .filter(|&refusal| refusal != RUN_FINISHED)
-        .map(|refusal| (refusal, 200));
-    let often: Vec<(u32, u64)> = often.collect();
-    seen.tally.require("largest programs", &often);
-    assert!(seen.violated >= 500 && seen.tally.contested >= 1000);
 }
 
 /// A beginning refuses an estimate that is not allowed before a record that is too short, and
@@ -213,9 +182,14 @@ fn beginnings() {
             let begun = board.begin(&mut rng, &program, &estimate);
             answers[begun.err().unwrap_or(DONE) as usize] += 1;
         }
-        let [accepted, short, estimates] =
+        let [done, short, estimates] =
             [DONE, BUFFER_TOO_SHORT, ESTIMATE_NOT_ALLOWED].map(|answer| answers[answer as usize]);
-        assert_eq!(accepted + short + estimates, 20_000);
-        assert!(accepted >= 2000 && short >= 2000 && estimates >= 2000);
+        assert_eq!(done + short + estimates, 20_000);
+        let counts = named([
+            ("beginnings that are done", done),
+            ("beginnings refused with 8", short),
+            ("beginnings refused with 13", estimates),
+        ]);
+        assert_counts(file!(), "beginnings", &counts);
     }
 }

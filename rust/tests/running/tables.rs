@@ -5,6 +5,7 @@ use gurvoke::builder::{
     at_least, below, choice, differs, equals, file, goal, maintain, par, repeat, seq, start, wait,
 };
 use gurvoke::cases::Shape;
+use gurvoke::counts::{assert_counts, named, Counts};
 use gurvoke::examples::NO_TABLE;
 use gurvoke::executive::{Executive, ALL, REFERENCE};
 use gurvoke::hex::hex;
@@ -121,18 +122,39 @@ fn is_table(table: &[u8]) -> bool {
     model::decompile(table, &mut file).is_ok()
 }
 
+/// How many tables with one byte changed were tried, and how many of them are tables all the same.
+#[derive(Default)]
+struct Changed {
+    all: u64,
+    tables: u64,
+}
+
+impl Changed {
+    fn note(&mut self, table: &[u8]) {
+        self.all += 1;
+        self.tables += u64::from(is_table(table));
+    }
+
+    /// What was counted, as the list of counts names it.
+    fn counts(&self) -> Counts {
+        let refused = self.all - self.tables;
+        named([
+            ("tables with one byte changed", self.all),
+            ("tables with one byte changed that are refused", refused),
+        ])
+    }
+}
+
 /// Every byte of the table of this file changed to every other value. Bytes that are no table get
-/// 9; the table of another file gets what that file's run would give. Gives how many were such
-/// tables.
-fn check_each_byte(file: &[u8], values: &[u8]) -> usize {
+/// 9; the table of another file gets what that file's run would give.
+fn check_each_byte(seen: &mut Changed, file: &[u8], values: &[u8]) {
     let program = Program::read(file).expect("a valid program");
     let right = table_of(file);
-    let mut others = 0;
     for place in 0..right.len() {
         for &value in values.iter().filter(|&&value| value != right[place]) {
             let mut table = right.clone();
             table[place] = value;
-            others += usize::from(is_table(&table));
+            seen.note(&table);
             for &executive in ALL {
                 if !is_table(&table) {
                     assert_no_table(executive, &table, &program);
@@ -145,7 +167,6 @@ fn check_each_byte(file: &[u8], values: &[u8]) -> usize {
             }
         }
     }
-    others
 }
 
 /// With the table of another file, an executive does what the plain one in Rust does, but for the
@@ -176,13 +197,16 @@ fn check_begin(executive: &'static Executive, table: &[u8], program: &Program) {
 #[test]
 fn every_byte_of_small_tables() {
     let values: Vec<u8> = (0..=255).collect();
-    let others = check_each_byte(&STATION_10, &values) + check_each_byte(&each_kind(), &values);
-    assert!(others > 1000, "{others} tables of other files");
+    let mut seen = Changed::default();
+    check_each_byte(&mut seen, &STATION_10, &values);
+    check_each_byte(&mut seen, &each_kind(), &values);
+    assert_counts(file!(), "every_byte_of_small_tables", &seen.counts());
 }
 
 #[test]
 fn every_byte_of_large_tables() {
     let mut rng = Rng::new(503);
+    let mut seen = Changed::default();
     for shape in [Shape::Deep, Shape::Wide, Shape::Mixed] {
         let file = runs::program_of(&mut rng, MAX_PARTS, MAX_DEPTH, shape);
         let right = table_of(&file);
@@ -190,6 +214,7 @@ fn every_byte_of_large_tables() {
         for place in 0..right.len() {
             let mut table = right.clone();
             table[place] ^= 1 << rng.below(8);
+            seen.note(&table);
             if !is_table(&table) {
                 for &executive in ALL {
                     assert_no_table(executive, &table, &program);
@@ -197,6 +222,7 @@ fn every_byte_of_large_tables() {
             }
         }
     }
+    assert_counts(file!(), "every_byte_of_large_tables", &seen.counts());
 }
 
 /// A table has exactly its length.
