@@ -3,6 +3,7 @@
 use super::markers::names as marked;
 use super::repository::Repository;
 use super::tables::{cells, quoted};
+use super::tested::with_numbers;
 use super::{all, renewed};
 
 /// Folders at the top of the repository, by which a name in a document is known to be a path.
@@ -267,6 +268,44 @@ fn wrong_rows_are_noticed() {
             renewed(&repository, &long) == right,
             "{path} with more than {row}"
         );
+    }
+}
+
+/// A table of tests whose one row has these counts.
+fn tests_table(counts: &str) -> String {
+    format!("| Counts | Test |\n|---|---|\n| {counts} | `rust/tests/reading/random.rs` |\n")
+}
+
+/// Numbers of the table of tests are sums of the list's, and a test asks for each of these.
+#[test]
+fn wrong_counts_are_noticed() {
+    let repository = Repository::here();
+    let tested = |list: &str, counts: &str| with_numbers(&repository, list, &tests_table(counts));
+    let files = "rust/tests/reading/random.rs, damaged_files, calls: 1000\n";
+    let tables = "rust/tests/reading/random.rs, damaged_tables, calls: 234\n";
+    let list = format!("# A comment\n\n{files}{tables}");
+    let right = tests_table("1,234 calls, by hand");
+    assert_eq!(tested(&list, "9 calls, by hand"), Ok(right));
+
+    let fault = |list: &str, counts: &str| tested(list, counts).expect_err("a fault");
+    assert!(fault(&list, "9 answers").contains("no test of the row counts this: 9 answers"));
+    assert!(fault(&list, "about 9 calls").contains("does not begin its entry: about 9 calls"));
+    for (wrong, words) in [
+        (files, "twice"),
+        ("calls: 3\n", "has the line: calls: 3"),
+        ("reading, damaged_files, calls: many\n", "has the line"),
+        (&files.replace("damaged", "whole"), "no test asks for"),
+        (
+            &files.replace("random.rs", "harness.rs"),
+            "no test asks for",
+        ),
+        (
+            "rust/tests/listing.rs, random_inputs, files: 3\n",
+            "no row has the file",
+        ),
+    ] {
+        let found = fault(&format!("{list}{wrong}"), "9 calls");
+        assert!(found.contains(words), "{wrong}{found}");
     }
 }
 

@@ -1,9 +1,11 @@
 //! Writes the registers in the documents anew, and says which documents it has changed.
 //!
 //! A register is what is written in a document from the repository itself. It stands between a marker with its name
-//! and an end marker, each on a line of its own. Some registers are made whole; others fill the column "Where" of a
-//! table that is written by hand. The tests (`documents`) fail where a register is out of date.
+//! and an end marker, each on a line of its own. Some registers are made whole; others fill one column of a table that
+//! is written by hand: "Where", or the numbers in "Counts". The tests (`documents`) fail where a register is out of
+//! date.
 
+mod columns;
 mod counts;
 mod declarations;
 #[cfg(test)]
@@ -14,6 +16,7 @@ mod places;
 mod promises;
 mod repository;
 mod tables;
+mod tested;
 mod versions;
 
 use std::process::ExitCode;
@@ -24,7 +27,7 @@ use repository::Repository;
 type Maker = fn(&Repository, &str) -> Result<String, String>;
 
 /// The registers by name.
-const REGISTERS: [(&str, Maker); 9] = [
+const REGISTERS: [(&str, Maker); 10] = [
     ("crates", |repository, _| tables::crates(repository)),
     ("counts", |repository, _| Ok(counts::table(repository))),
     ("must-fail edits", |repository, _| edits::tables(repository)),
@@ -38,6 +41,7 @@ const REGISTERS: [(&str, Maker); 9] = [
     ("sentences", places::sentences),
     ("functions", places::functions),
     ("theorems", places::theorems),
+    ("tested", tested::table),
 ];
 
 /// The names of all registers.

@@ -1,79 +1,13 @@
 //! Tables written by hand in which the column "Where" is filled: the files and lines of what the
 //! other columns name.
 
+use super::columns::filled;
 use super::declarations::{is_place, named, resolve, Declaration, Kind};
 use super::repository::Repository;
-use super::tables::{cells, quoted, row};
+use super::tables::quoted;
 
 /// The title of the column that is filled.
 const WHERE: &str = "Where";
-
-/// How the line under the titles of a table begins.
-const RULE: &str = "|---";
-
-/// A row of a table, with the titles of its columns.
-struct Row<'a> {
-    titles: &'a [&'a str],
-    cells: Vec<&'a str>,
-}
-
-impl Row<'_> {
-    /// The cell in the column of this title, or nothing.
-    fn cell(&self, title: &str) -> &str {
-        let place = self.titles.iter().position(|other| *other == title);
-        place.map_or("", |place| self.cells[place])
-    }
-}
-
-/// Fills the column in every table of a text. The rest stays.
-fn filled<F>(text: &str, place_of: F) -> Result<String, String>
-where
-    F: Fn(&Row) -> Result<String, String>,
-{
-    let mut made = String::new();
-    let mut faults = Vec::new();
-    let mut titles: Option<Vec<&str>> = None;
-    for line in text.split_inclusive('\n') {
-        let cells = cells(line);
-        match (&titles, cells) {
-            (Some(titles), Some(cells)) if !line.starts_with(RULE) => {
-                match filled_row(&Row { titles, cells }, &place_of) {
-                    Ok(row) => made += &row,
-                    Err(fault) => faults.push(fault),
-                }
-            }
-            (Some(_), Some(_)) => made += line,
-            (_, cells) => {
-                titles = cells;
-                made += line;
-            }
-        }
-    }
-    if faults.is_empty() {
-        Ok(made)
-    } else {
-        Err(faults.join("; "))
-    }
-}
-
-/// A row with its column filled.
-fn filled_row<F>(old: &Row, place_of: F) -> Result<String, String>
-where
-    F: Fn(&Row) -> Result<String, String>,
-{
-    let column = old.titles.iter().position(|title| *title == WHERE);
-    let column = column.ok_or_else(|| format!("a table has no column {WHERE}"))?;
-    if old.cells.len() != old.titles.len() {
-        return Err(format!(
-            "a row has too many or too few cells: {:?}",
-            old.cells
-        ));
-    }
-    let place = place_of(old)?;
-    let mut cells = old.cells.clone();
-    cells[column] = &place;
-    Ok(row(&cells))
-}
 
 /// Takes up a text that is not there yet.
 fn add(texts: &mut Vec<String>, text: String) {
@@ -84,7 +18,7 @@ fn add(texts: &mut Vec<String>, text: String) {
 
 /// File and line of the definition that a row begins with.
 pub fn definitions(repository: &Repository, text: &str) -> Result<String, String> {
-    filled(text, |row| {
+    filled(text, WHERE, |row| {
         let name = quoted(row.cell("Definition")).next();
         let name = name.ok_or_else(|| format!("a row names no definition: {:?}", row.cells))?;
         let found = resolve(&repository.declarations, &[Kind::Definition], name, &[])?;
@@ -99,7 +33,7 @@ fn files(
     title: &str,
     kinds: &[Kind],
 ) -> Result<String, String> {
-    filled(text, |row| {
+    filled(text, WHERE, |row| {
         let mut paths = Vec::new();
         for declared in named_in(&repository.declarations, kinds, row.cell(title))? {
             add(&mut paths, format!("`{}`", declared.path));
@@ -157,7 +91,7 @@ fn by_crate(found: &[&Declaration]) -> String {
 /// The files of each sentence's definitions and laws.
 pub fn sentences(repository: &Repository, text: &str) -> Result<String, String> {
     let all = &repository.declarations;
-    filled(text, |row| {
+    filled(text, WHERE, |row| {
         let definitions = [Kind::Definition, Kind::Field];
         let mut found = named_in(all, &definitions, row.cell("Definition"))?;
         let laws = [Kind::Law, Kind::Field];

@@ -149,10 +149,15 @@ fn collect(top: &Path, folder: &str, found: &mut Vec<Source>) {
     }
 }
 
+/// The lines of a list, but for comments and empty ones.
+pub fn lines_of(list: &str) -> impl Iterator<Item = &str> {
+    list.lines()
+        .filter(|line| !line.starts_with('#') && !line.is_empty())
+}
+
 /// The crates that `crates.txt` lists, in its order.
 fn crates(list: &str) -> Vec<Crate> {
-    list.lines()
-        .filter(|line| !line.starts_with('#'))
+    lines_of(list)
         .filter_map(|line| line.split_once(':'))
         .map(|(name, uses)| Crate {
             name: name.to_string(),

@@ -1,6 +1,6 @@
 //! The wrong versions of the code that were tried by machine, crate by crate.
 
-use super::repository::Repository;
+use super::repository::{lines_of, Repository};
 use super::tables::{head, in_cell, row};
 
 const LIST: &str = "docs/wrong-versions.txt";
@@ -19,10 +19,7 @@ fn read(line: &str) -> Result<Tried<'_>, String> {
 /// The list as a table, in the order of the crates. Every crate with code has one line.
 pub fn table(repository: &Repository) -> Result<String, String> {
     let list = repository.read(LIST);
-    let lines = list
-        .lines()
-        .filter(|line| !line.starts_with('#') && !line.is_empty());
-    let tried: Vec<Tried> = lines.map(read).collect::<Result<_, _>>()?;
+    let tried: Vec<Tried> = lines_of(&list).map(read).collect::<Result<_, _>>()?;
     for (name, _, _) in &tried {
         if !repository.has_code(name) {
             return Err(format!("{LIST} names {name}, which is no crate with code"));
