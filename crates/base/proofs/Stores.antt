@@ -2,13 +2,14 @@
 use Prim.Native.Nat.{ℕ, zero, suc, _+_, _-_, _<_, _≤_}
 use mathlib.Core.Path.{_≡_, refl, sym, ap, _∙_}
 use mathlib.Core.Logic.{_⊎_, inl, inr}
+use mathlib.Core.Bool.{Bool, true}
 use mathlib.Core.List.{List, [], _∷_, _++_, map, append-assoc, append-nil}
 use native.Mathlib.Nat.{zero-add, add-zero, add-suc, suc-add, sub-zero}
 use native.Mathlib.Numerals.{add-one}
 use native.Mathlib.Omega.{arith}
 use lib.ListN.{length, getD, take, drop, set, replicate, length-append, length-set, List·getD-map}
 use lib.Seq.{sets, drop-cons, sets-eq, length-take-le, take-at, drop-at, getD-set-same, getD-set-other, drop-set-lt, set-comm, set-set, drop-drop, drop-append-seam, drop-append-add, getD-drop}
-use Rattle.base.specs.Lists.{sum, concat, bytesAt}
+use Rattle.base.specs.Lists.{sum, concat, all, bytesAt}
 
 -- a run of stores, and then one that begins where it ends
 pub sets-append : (l : List ℕ) (i j : ℕ) (xs ys : List ℕ) → i + length xs ≡ j → sets (sets l i xs) j ys ≡ sets l i (xs ++ ys)
@@ -70,6 +71,18 @@ bytes-all s = bytes-front s s [] 0 (sym (append-nil s))
 pub drop-bytes : (s : List ℕ) (k n : ℕ) → k + n ≤ length s → drop k s ≡ bytesAt s k n ++ drop (k + n) s
 drop-bytes s k zero h = rw add-zero
 drop-bytes s k (suc n) h = drop-cons s k 0 (omega arith) ∙ rw (add-suc, ← suc-add) (ap (λ (r : List ℕ). getD s k 0 ∷ r) (drop-bytes s (suc k) n (omega arith)))
+
+-- bytes one after the other
+pub bytes-append : (s : List ℕ) (i a b : ℕ) → bytesAt s i (a + b) ≡ bytesAt s i a ++ bytesAt s (i + a) b
+bytes-append s i zero b = rw (zero-add, add-zero)
+bytes-append s i (suc a) b = rw (suc-add, bytes-append s (suc i) a b, suc-add, ← add-suc)
+
+-- a test that each of them passes
+pub all-bytes : (f : ℕ → Bool) (s : List ℕ) (i n : ℕ) → ((j : ℕ) → j < n → f (getD s (i + j) 0) ≡ true) → all f (bytesAt s i n) ≡ true
+all-bytes f s i zero h = refl
+all-bytes f s i (suc n) h =
+    let first : f (getD s i 0) ≡ true = rw add-zero at (h 0 (omega arith)) in
+    rw (first, all-bytes f s (suc i) n (λ j l. rw (suc-add, ← (add-suc i j)) (h (suc j) (omega arith)))) refl
 
 -- so many bytes taken from a place on
 pub take-bytes : (s : List ℕ) (k n : ℕ) → k + n ≤ length s → take n (drop k s) ≡ bytesAt s k n

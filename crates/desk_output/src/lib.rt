@@ -1,4 +1,4 @@
-// Printing.
+// Prints texts and messages. No contract can say what the writes did.
 use desk_arguments::Command;
 use desk_arguments::Request;
 use desk_arguments::messages::MAX_MESSAGE;

@@ -13,7 +13,7 @@ use lib.Seq.{getD-append-add}
 use borrow.Author.Tests.{leb-true, le-leb, eqb-true, eq-eqb}
 use Rattle.base.specs.Lists.{flat, all, tabulate}
 use Rattle.base.proofs.Lists.{all-append, length-pieces, length-tabulate, piece-at, Passed, none-fails, passed}
-use Rattle.base.proofs.Stores.{bytes-all}
+use Rattle.base.proofs.Stores.{bytes-all, bytes-append}
 use Rattle.meaning.specs.declared.Entry.{Entry}
 use Rattle.meaning.specs.declared.Form.{Form}
 use Rattle.meaning.specs.declared.Form.the-variants.{File, Table}
@@ -234,11 +234,6 @@ module _ (v k : ℕ) (p : Part) (w : Within v k p) where
   pub file-accepted : (programRefusal File (fileOf v k p) ≡ 0) × (treeOf File (fileOf v k p) ≡ some p) × (variables (fileOf v k p) ≡ v) × (clocks (fileOf v k p) ≡ k)
   unfolding fileOf
   file-accepted = (held-accepted File (fileOf v k p) p file-holds, held-tree File (fileOf v k p) p file-holds, refl, refl)
-
--- bytes one after the other
-pub bytes-append : (s : List ℕ) (i a b : ℕ) → bytesAt s i (a + b) ≡ bytesAt s i a ++ bytesAt s (i + a) b
-bytes-append s i zero b = rw (zero-add, add-zero)
-bytes-append s i (suc a) b = rw (suc-add, bytes-append s (suc i) a b, suc-add, ← add-suc)
 
 -- a list cut into pieces of one width is those pieces one after the other
 module _ (form : Form) (s : List ℕ) (g : Entry → List ℕ) (w a : ℕ) (cut : (q : ℕ) → g (entryAt form s q) ≡ bytesAt s (a + w * q) w) where

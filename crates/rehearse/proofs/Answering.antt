@@ -1,6 +1,6 @@
 -- Every line of the input is answered, in its order: what `linesAnswered` and `inputRead` say of a run that is complete.
-use Prim.Native.Nat.{ℕ, zero, suc, _+_, _-_, _<_, _≤_}
-use native.Mathlib.Nat.{zero-add, add-zero, add-suc, suc-add, sub-zero}
+use Prim.Native.Nat.{ℕ, suc, _+_, _-_, _<_, _≤_}
+use native.Mathlib.Nat.{zero-add, sub-zero}
 use native.Mathlib.Numerals.{add-one}
 use native.Mathlib.Omega.{arith}
 use mathlib.Core.Path.{_≡_, refl, sym, _∙_, ap}
@@ -8,12 +8,11 @@ use mathlib.Core.Bool.{Bool, true, false, not, _&&_, true≢false, false≢true}
 use mathlib.Core.List.{List, [], _∷_, _++_, append-nil, append-assoc}
 use lib.Dec.{eqb}
 use lib.ListN.{length, getD, take, drop}
-use lib.Seq.{length-sets, take-append-seam}
+use lib.Seq.{length-sets}
 use borrow.Author.Tests.{le-leb, lt-leb, eqb-true}
 use Rattle.base.specs.Lists.{all, flat, bytesAt}
 use Rattle.base.proofs.Lists.{and-left, and-right, all-append, flat-append}
-use Rattle.base.proofs.Stores.{length-bytes, getD-bytes, drop-bytes, bytes-sets}
-use Rattle.meaning.proofs.Files.{bytes-append}
+use Rattle.base.proofs.Stores.{length-bytes, getD-bytes, take-bytes, all-bytes, bytes-append, bytes-sets}
 use Rattle.desk_parse.specs.Words.{isOther, leading}
 use Rattle.desk_parse.specs.Places.{placeOf}
 use Rattle.desk_parse.proofs.Leading.{leading-few, leading-passes, leading-stops}
@@ -63,17 +62,6 @@ lines-joined : (ls : List (List ℕ)) (rest : List ℕ) → all unbroken ls ≡ 
 lines-joined [] rest h u = lines-last rest u
 lines-joined (l ∷ ls) rest h u =
     ap linesOf (append-assoc (closed l) (flat closed ls) rest) ∙ lines-first l (flat closed ls ++ rest) (and-left (unbroken l) (all unbroken ls) h) ∙ ap (λ (x : List (List ℕ)). l ∷ x) (lines-joined ls rest (and-right (unbroken l) (all unbroken ls) h) u)
-
--- a prefix of what stands from a place on, byte by byte
-take-bytes : (s : List ℕ) (k n : ℕ) → k + n ≤ length s → take n (drop k s) ≡ bytesAt s k n
-take-bytes s k n h =
-    rw (drop-bytes s k n h) (ap (λ (m : ℕ). take m (bytesAt s k n ++ drop (k + n) s)) (sym (length-bytes s k n)) ∙ take-append-seam (bytesAt s k n) (drop (k + n) s))
-
-all-bytes : (f : ℕ → Bool) (s : List ℕ) (i n : ℕ) → ((j : ℕ) → j < n → f (getD s (i + j) 0) ≡ true) → all f (bytesAt s i n) ≡ true
-all-bytes f s i zero h = refl
-all-bytes f s i (suc n) h =
-    let first : f (getD s i 0) ≡ true = rw add-zero at (h 0 (omega arith)) in
-    rw (first, all-bytes f s (suc i) n (λ j l. rw (suc-add, ← (add-suc i j)) (h (suc j) (omega arith)))) refl
 
 -- the bytes that are still to be answered, and the next line among them
 abbrev pending : List ℕ → Stand → List ℕ
