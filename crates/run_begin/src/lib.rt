@@ -9,7 +9,7 @@ use meaning::sizes::MARKS_PLACE;
 use meaning::sizes::RECORD;
 use program_table::is_table;
 use run_allowed::values::estimate_allowed;
-use run_marks::initialise::initialise;
+use run_initialise::initialise;
 ghost use mathlib.Core.Path.{_≡_};
 ghost use lib.ListN.{length};
 ghost use Rattle.meaning.specs.Cycle.{beginRefusal, begunInto};

@@ -1,4 +1,3 @@
-pub mod Initialising
 pub mod Lowest
 pub mod Judged
 pub mod Settling

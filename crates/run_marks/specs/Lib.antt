@@ -1,3 +1,2 @@
-pub mod Initialising
 pub mod Lowest
 pub mod Settling

@@ -1,5 +1,3 @@
-// The marks of a run: those that initialising a part sets, and those that a settling leaves, by the
-// transition of each marked part.
-pub mod initialise;
+// The marks that a settling leaves: what each marked part does, and the marks after it.
 pub mod settled;
 pub mod transitions;

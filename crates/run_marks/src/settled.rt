@@ -1,7 +1,6 @@
 // The marks after a settling. The parts are settled from the last one down, so that what is inside a
 // part is settled before it. Marks before the settling are read from the record and those after it
 // are written to a list of their own, so that a part marked by this settling is not judged by it.
-use crate::initialise::initialise;
 use crate::transitions::transition;
 use base::store;
 use meaning::Form;
@@ -15,6 +14,7 @@ use program_part::layout::end_at;
 use program_part::layout::next_at;
 use program_part::layout::parts;
 use program_walk::walker::entry_at;
+use run_initialise::initialise;
 use run_record::fields::is_marked;
 ghost use mathlib.Core.Path.{_≡_};
 ghost use mathlib.Core.Logic.{_⊎_};

@@ -26,7 +26,7 @@ ghost use Rattle.meaning.specs.Kinds.{kindOf};
 ghost use Rattle.meaning.specs.Program.{parts};
 ghost use Rattle.meaning.specs.Table.{isTable};
 ghost use Rattle.meaning.specs.Cycle.{beginsIn, begins, initialMarks};
-ghost use Rattle.run_marks.specs.Initialising.{InitialiseStep};
+ghost use Rattle.run_initialise.specs.Initialising.{InitialiseStep};
 
 // Whether part p, a child of part q of a kind, is initialised with it.
 fn begins_in(kind: u8, q: Number, p: Number) -> bool

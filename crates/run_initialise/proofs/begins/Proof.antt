@@ -1,9 +1,9 @@
 -- `begins` meets its contract: the kind of p's parent decides.
 use borrow.Author.Needs.{needs}
 use Rattle.program_part.proofs.Places.{row-readable}
-use Rattle.run_marks.proofs.Initialising.{parent-row-readable, begins-made}
-use Rattle.run_marks.proofs.initialise.begins.Statement.{statement}
-use Rattle.run_marks.proofs.initialise.begins.Tie as tie
+use Rattle.run_initialise.proofs.Initialising.{parent-row-readable, begins-made}
+use Rattle.run_initialise.proofs.begins.Statement.{statement}
+use Rattle.run_initialise.proofs.begins.Tie as tie
 
 parent-at-requires : tie.Need-parent-at-requires
 parent-at-requires c κs = search row-readable

@@ -1,9 +1,9 @@
 -- `initialise_step` meets its contract: one law for each way that a part's turn goes.
 use borrow.Author.Needs.{needs}
 use Rattle.program_part.proofs.Places.{row-readable}
-use Rattle.run_marks.proofs.Initialising.{turn-passed, turn-begins, turn-idle}
-use Rattle.run_marks.proofs.initialise.initialise_step.Statement.{statement}
-use Rattle.run_marks.proofs.initialise.initialise_step.Tie as tie
+use Rattle.run_initialise.proofs.Initialising.{turn-passed, turn-begins, turn-idle}
+use Rattle.run_initialise.proofs.initialise_step.Statement.{statement}
+use Rattle.run_initialise.proofs.initialise_step.Tie as tie
 
 index-requires : tie.Need-index-requires
 index-requires c κs = search needs

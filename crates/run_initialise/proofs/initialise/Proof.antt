@@ -6,9 +6,9 @@ use lib.Seq.{sets}
 use borrow.Author.Needs.{needs}
 use Rattle.program_part.proofs.Places.{row-readable}
 use Rattle.meaning.specs.Cycle.{initialMarksFrom}
-use Rattle.run_marks.proofs.Initialising.{next-fits, turn-there, initial-starts, initial-next, initial-ends}
-use Rattle.run_marks.proofs.initialise.initialise.Statement.{statement}
-use Rattle.run_marks.proofs.initialise.initialise.Tie as tie
+use Rattle.run_initialise.proofs.Initialising.{next-fits, turn-there, initial-starts, initial-next, initial-ends}
+use Rattle.run_initialise.proofs.initialise.Statement.{statement}
+use Rattle.run_initialise.proofs.initialise.Tie as tie
 
 abbrev Inv-loop : tie.InvT-loop
 Inv-loop t m₀ from q skip₀ p₀ p-end m skip p = (q < p) × ((length m ≡ length m₀) × (sets m (from + p) (initialMarksFrom t p (p-end - p) skip) ≡ sets m₀ (from + p₀) (initialMarksFrom t p₀ (p-end - p₀) skip₀)))

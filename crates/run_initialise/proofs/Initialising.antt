@@ -19,7 +19,7 @@ use Rattle.program_part.specs.Readable.{Readable}
 use Rattle.program_part.proofs.Places.{parts-fit, row-readable}
 use Rattle.meaning.proofs.Tables.{inside}
 use Rattle.meaning.proofs.Nesting.{inside-root, inside-parent}
-use Rattle.run_marks.specs.Initialising.{stepMark, stepSkip, InitialiseStep}
+use Rattle.run_initialise.specs.Initialising.{stepMark, stepSkip, InitialiseStep}
 
 -- what p's parent makes of it
 pub begins-made : (t : List ℕ) (p q : ℕ) (e : Entry) (b : Bool) → q ≡ parentAt t p → e ≡ entryAt Table t q → b ≡ beginsIn (kindOf (e .kind)) q p → b ≡ begins t p

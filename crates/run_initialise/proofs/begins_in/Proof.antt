@@ -4,8 +4,8 @@ use Rattle.meaning.specs.Kinds.{kindOf}
 use Rattle.meaning.specs.Cycle.{beginsIn}
 use Rattle.program_part.proofs.KindBytes.{no-kind}
 use borrow.Author.Needs.{needs}
-use Rattle.run_marks.proofs.initialise.begins_in.Statement.{statement}
-use Rattle.run_marks.proofs.initialise.begins_in.Tie as tie
+use Rattle.run_initialise.proofs.begins_in.Statement.{statement}
+use Rattle.run_initialise.proofs.begins_in.Tie as tie
 
 index-requires : tie.Need-index-requires
 index-requires c κs = search needs
