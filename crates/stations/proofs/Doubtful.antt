@@ -7,7 +7,6 @@ use mathlib.Core.Logic.{inl, inr}
 use mathlib.Core.Option.{some}
 use mathlib.Core.List.{List, [], _∷_}
 use lib.ListN.{replicate}
-use Rattle.meaning.specs.declared.Operand.{Operand}
 use Rattle.meaning.specs.declared.Form.the-variants.{File}
 use Rattle.meaning.specs.declared.Transition.the-variants.{Stays, Ends}
 use Rattle.meaning.specs.declared.Outcome.the-variants.{Satisfied, Violated}
@@ -19,6 +18,7 @@ use Rattle.meaning.specs.Conditions.{Situation, outcome, reached, satisfied, vi
 use Rattle.meaning.specs.Record.{recordLength, phaseOf, lastTime, estimateIn, startedIn, startsIn, marksIn, restZero, valuesAllowed, clockAllowed, clocksAllowed, markedChildren, childrenAllowed, partsAllowed, rootAllowed, recordBytes, recordAllowed}
 use Rattle.meaning.specs.Cycle.{beginsIn, initialMarksFrom, initialMarks, breaks, checkedFrom, leavesFrom, valuesFor, goalBytes, transition, applied, settledFrom, situation, estimateAllowed, freshRecord, beginRefusal, begunInto, offerRefusal, offeredInto, goalsInto, worksFrom, settleRefusal, settledInto}
 use Rattle.agreement.specs.Unfolding.{Rest, broken, holding, afresh, check, working, settle}
+use Rattle.stations.specs.Moments.{Says, cycle, operand}
 
 -- SEQ(MAINTAIN(variable 1 equals 0, SEQ(START 0, WAIT clock 0 at least 10, GOAL 0=2)), GOAL 0=1)
 abbrev pub file : List ℕ
@@ -58,14 +58,11 @@ level = 0 ∷ 0 ∷ []
 abbrev pub tilted : List ℕ
 tilted = 0 ∷ 1 ∷ []
 
-abbrev pub cycle : List ℕ → ℕ → List ℕ → List ℕ
-cycle r time est = settledInto table (offeredInto table r time 2) est
-
 abbrev pub begun : List ℕ
 begun = begunInto table level (replicate recordLength 0)
 
 abbrev pub before : List ℕ
-before = cycle (cycle begun 100 level) 109 tilted
+before = cycle table (cycle table begun 100 level) 109 tilted
 
 -- the record after the offer at 110, and after the settling that follows it
 abbrev pub offered : List ℕ
@@ -73,15 +70,6 @@ offered = offeredInto table before 110 2
 
 abbrev pub after : List ℕ
 after = settledInto table offered level
-
--- what a record says: the marks of the parts 0 to 6, the phase, the last time, the estimate, and the clock
-pub record Says (r marks : List ℕ) (phase time : ℕ) (estimate started starts : List ℕ) : Type 0 where
-  pub marks-are : marksIn table r ≡ marks
-  pub phase-is : phaseOf r ≡ phase
-  pub time-is : lastTime r ≡ time
-  pub estimate-is : estimateIn table r ≡ estimate
-  pub started-are : startedIn table r ≡ started
-  pub starts-are : startsIn table r ≡ starts
 
 -- The offer at 110. By the stored estimate and this time the clock comes due and the MAINTAIN is violated
 abbrev pub offering : Situation
@@ -144,12 +132,12 @@ from-0 = refl
 
 -- the run up to the doubtful cycle and over it
 pub record Worked : Type 0 where
-  pub begun-says : Says begun (1 ∷ 1 ∷ 1 ∷ 1 ∷ 0 ∷ 0 ∷ 0 ∷ []) 0 0 level (0 ∷ []) (0 ∷ [])
-  pub before-says : Says before (1 ∷ 1 ∷ 1 ∷ 0 ∷ 1 ∷ 0 ∷ 0 ∷ []) 0 109 tilted (1 ∷ []) (100 ∷ [])
+  pub begun-says : Says table begun (1 ∷ 1 ∷ 1 ∷ 1 ∷ 0 ∷ 0 ∷ 0 ∷ []) 0 0 level (0 ∷ []) (0 ∷ [])
+  pub before-says : Says table before (1 ∷ 1 ∷ 1 ∷ 0 ∷ 1 ∷ 0 ∷ 0 ∷ []) 0 109 tilted (1 ∷ []) (100 ∷ [])
   pub offer-judges : situation table before (estimateIn table before) 110 ≡ offering
-  pub offered-says : Says offered (1 ∷ 1 ∷ 0 ∷ 0 ∷ 0 ∷ 0 ∷ 0 ∷ []) 1 110 tilted (1 ∷ []) (100 ∷ [])
+  pub offered-says : Says table offered (1 ∷ 1 ∷ 0 ∷ 0 ∷ 0 ∷ 0 ∷ 0 ∷ []) 1 110 tilted (1 ∷ []) (100 ∷ [])
   pub settling-judges : situation table offered level (lastTime offered) ≡ settling
-  pub after-says : Says after (1 ∷ 0 ∷ 0 ∷ 0 ∷ 0 ∷ 0 ∷ 1 ∷ []) 0 110 level (1 ∷ []) (100 ∷ [])
+  pub after-says : Says table after (1 ∷ 0 ∷ 0 ∷ 0 ∷ 0 ∷ 0 ∷ 1 ∷ []) 0 110 level (1 ∷ []) (100 ∷ [])
 
 pub worked : Worked
 unfolding kindOf numberOf known arity testOf testAllowed conditionAllowed goalAllowed startAllowed countAllowed emptyAllowed operandAllowed fold depth size sizesAllowed entries preorder entryKnown entryAllowed arityOf makePart takeChildren trees treeOf programRefusal nextOf block tableOf compiled fileIn isTable outcome reached satisfied violated restZero valuesAllowed clockAllowed clocksAllowed markedChildren childrenAllowed partsAllowed rootAllowed recordBytes recordAllowed beginsIn initialMarksFrom initialMarks checkedFrom leavesFrom valuesFor goalBytes transition applied settledFrom estimateAllowed freshRecord beginRefusal begunInto offerRefusal offeredInto goalsInto worksFrom settleRefusal settledInto
@@ -164,9 +152,6 @@ worked =
     }
 
 -- The same cycle by unfolding the tree
-abbrev pub operand : ℕ → ℕ → ℕ → Operand
-operand b0 b1 b2 = record { b0 = b0; b1 = b1; b2 = b2; b3 = 0 }
-
 abbrev pub tree : Part
 tree =
     seq

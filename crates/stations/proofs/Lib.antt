@@ -1,2 +1,4 @@
 pub mod Stations
+pub mod Any
 pub mod Doubtful
+pub mod Deciding

@@ -1,5 +1,6 @@
 -- Ten stations to be proved: a table of them, and what it is for one of them to hold by the table's definitions and by the unfolding.
-use Prim.Native.Nat.{ℕ, suc}
+use Prim.Native.Nat.{ℕ, suc, _≤_, _<_}
+use mathlib.Core.Path.{_≡_}
 use mathlib.Core.Bool.{Bool, true, false, cond, _&&_}
 use mathlib.Core.Option.{Option, none, some}
 use mathlib.Core.List.{List, [], _∷_, _++_}
@@ -7,6 +8,7 @@ use lib.Dec.{eqb}
 use lib.ListN.{replicate}
 use Rattle.base.specs.Lists.{all, same}
 use Rattle.meaning.specs.declared.Form.the-variants.{File}
+use Rattle.meaning.specs.Sizes.{maxValue, timeLimit}
 use Rattle.meaning.specs.Tree.{Part}
 use Rattle.meaning.specs.Program.{variables, clocks, treeOf, programRefusal}
 use Rattle.meaning.specs.Table.{compiled}
@@ -79,7 +81,7 @@ waits = 0x03 ∷ 0x01 ∷ 0x01 ∷ 0x04 ∷ 0x02 ∷ 0x03 ∷ 0x02 ∷ 0x00 ∷ 
 abbrev pub repeats : ℕ → List ℕ
 repeats n = program (suc n) (replicate n 8 ++ (1 ∷ [])) (replicate n 0 ++ (replicate n 0 ++ (replicate n 0 ++ (replicate n 0 ++ (0 ∷ 0 ∷ 1 ∷ 0 ∷ [])))))
 
--- Stations 1 to 9 in their order; 2 with "any settling" at either side of its condition, 3 at the least and the greatest first time
+-- Stations 1 to 9 in their order; 2 with "any settling" at either side of its condition, 3 at the least and the greatest first time (`AnyHold` has all)
 unfoldable pub stations : List Station
 stations =
     station goal1 0 (at 0 ∷ with-estimate 0 ∷ at 0 ∷ with-estimate 1 ∷ []) (goal-is 1 ∷ running ∷ goal-is 1 ∷ done ∷ []) (some 2)
@@ -181,3 +183,14 @@ holds x = eqb (programRefusal File (x .file)) (x .answer) && cond (eqb (x .answe
 
 abbrev pub allHold : Bool
 allHold = all holds stations && (same (compiled File waits) table10 && all holds further)
+
+-- Stations 2 and 3 for all: "any settling finishes" after an offer at any time, with any estimate that is allowed; "goals 01 at any first time"
+abbrev pub finishesWith : ℕ → ℕ → Station
+finishesWith time e = station maintains 2 (at time ∷ with-estimate e ∷ []) (goal-is 255 ∷ done ∷ []) (some 1)
+
+abbrev pub offersAt : ℕ → Station
+offersAt time = station limited 0 (at time ∷ []) (goal-is 1 ∷ []) none
+
+pub record AnyHold : Type 0 where
+  pub any-settling : (time e : ℕ) → time < timeLimit → e ≤ maxValue → holds (finishesWith time e) ≡ true
+  pub any-first-time : (time : ℕ) → time < timeLimit → holds (offersAt time) ≡ true
