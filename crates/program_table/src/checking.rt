@@ -133,7 +133,8 @@ fn root_matches(t: &[u8]) -> bool
     (NO_PART == parent_at(t, 0)) & (NO_PART == next_at(t, 0))
 }
 
-// Whether every row is the one implied: it ends at the first byte that differs.
+// Whether every row is the one implied. A row's kind and operand imply themselves, so that only its links can
+// differ; document 01's check goes over all eight bytes, and ends at the first that differs.
 pub(crate) fn rows_match(t: &[u8]) -> bool
     requires { ⌜ Readable Table (now t) 0 ⌝ }
     requires { ⌜ Ending (now t) ⌝ }

@@ -5,6 +5,9 @@ use Rattle.desk_format.proofs.Labels.{numbered-pieces}
 use Rattle.desk_format.proofs.words.write_numbered.Statement.{statement}
 use Rattle.desk_format.proofs.words.write_numbered.Tie as tie
 
+returns : tie.Need-returns
+returns c = search (three-written, numbered-pieces)
+
 write-word-requires : tie.Need-write-word-requires
 write-word-requires c κs = first-room _ (c .before .before .before .pre) (numbered-pieces _ _)
 
@@ -22,9 +25,6 @@ write-word-requires-2 c κs = search (third-room, numbered-pieces)
 
 same-length : tie.Need-same-length
 same-length c = search needs
-
-returns : tie.Need-returns
-returns c = search (three-written, numbered-pieces)
 
 pub write-numbered-spec : {M : Type 1} → statement M
 write-numbered-spec =

@@ -7,6 +7,9 @@ use Rattle.desk_transcript.proofs.Summing.{estimate-pieces}
 use Rattle.desk_transcript.proofs.summary.write_estimate.Statement.{statement}
 use Rattle.desk_transcript.proofs.summary.write_estimate.Tie as tie
 
+returns : tie.Need-returns
+returns c = search (three-written, estimate-pieces)
+
 slice-aggregate-write-word : tie.Need-slice-aggregate-write-word
 slice-aggregate-write-word c = search needs
 
@@ -40,9 +43,6 @@ write-word-requires-2 c κs =
 
 same-length : tie.Need-same-length
 same-length c = search needs
-
-returns : tie.Need-returns
-returns c = search (three-written, estimate-pieces)
 
 pub write-estimate-spec : {M : Type 1} → statement M
 write-estimate-spec =
