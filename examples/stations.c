@@ -1,0 +1,836 @@
+/*
+ * The ten stations of document 01, its refusals, the misreadings that it names and some further
+ * programs, as calls with what each must answer and every byte that it must leave. It runs on any
+ * library with this header, and needs nothing else:
+ *
+ *   gcc -Iinclude examples/stations.c LIBRARY -o stations && ./stations
+ *
+ * A station that is as document 01 says has one line of output, and one that is not has the first
+ * difference; then the exit status is 1. The output of a right library is examples/stations.out.
+ * Everything here was worked out from document 01, and nothing from what a library printed.
+ *
+ * Each station runs twice: with buffers of just the length that is needed, and with longer ones.
+ * After every call all buffers are compared whole, what is lent of them and what lies behind. So a
+ * refused call must leave every byte, and an accepted one every byte that is not its own.
+ */
+#include "gurvoke.h"
+
+#include <stdbool.h>
+#include <stdio.h>
+#include <string.h>
+
+/* What a step of a station is: its name, a call, or what is done or known between calls. */
+enum what {
+    NAME,
+    COMPILE,
+    DECOMPILE,
+    BEGIN,
+    OFFER,
+    SETTLE,
+    CLOCK,
+    CYCLES,
+    IN_TABLE,
+    IN_RECORD,
+    LEND
+};
+
+/* Bytes are written in hexadecimal, marks as a digit for each part. */
+struct step {
+    enum what what;
+    const char *bytes; /* a name; a file, a table, an estimate or goals */
+    const char *after; /* the table of the file; the marks after the call */
+    uint32_t number; /* a time, a clock, a place, or how many cycles */
+    size_t value; /* the room of a refused call, a start, a byte, or a length */
+    uint32_t answer;
+};
+
+#define STATION(name) {NAME, name, "", 0, 0, 0}
+
+/* Calls that are accepted. A file is compiled, and its table must give it back. Which contested
+ * variable an offer names follows from the goals: any of them, or none. */
+#define COMPILED(file, table) {COMPILE, file, table, 0, 0, 0}
+#define BEGUN(estimate, marks) {BEGIN, estimate, marks, 0, 0, 0}
+#define OFFERED(time, goals, marks) {OFFER, goals, marks, time, 0, GURVOKE_ANSWERED}
+#define RUNNING(estimate, marks) {SETTLE, estimate, marks, 0, 0, GURVOKE_RUNNING}
+#define FINISHED(estimate, marks) {SETTLE, estimate, marks, 0, 0, GURVOKE_FINISHED}
+
+/* Calls that are refused with a number. The room is the length of the output, or of the goals. */
+#define FILE_REFUSED(file, room, no) {COMPILE, file, "", 0, room, no}
+#define TABLE_REFUSED(table, room, no) {DECOMPILE, table, "", 0, room, no}
+#define BEGIN_REFUSED(estimate, room, no) {BEGIN, estimate, "", 0, room, no}
+#define OFFER_REFUSED(time, room, no) {OFFER, "", "", time, room, no}
+#define SETTLE_REFUSED(estimate, no) {SETTLE, estimate, "", 0, 0, no}
+
+/* The next settling starts a clock. The run has finished in so many cycles, or in none yet (0). */
+#define STARTS(clock, start) {CLOCK, "", "", clock, start, 0}
+#define FINISHED_IN(cycles) {CYCLES, "", "", cycles, 0, 0}
+
+/* Somebody changes a byte of the table or of the record, or lends the record so long. */
+#define TABLE_BYTE(place, byte) {IN_TABLE, "", "", place, byte, 0}
+#define RECORD_BYTE(place, byte) {IN_RECORD, "", "", place, byte, 0}
+#define RECORD_LENT(length) {LEND, "", "", 0, length, 0}
+
+/* A byte that no record may have where another stands: neither call takes the record (10). */
+#define NOT_ALLOWED(place, wrong, right)                                                         \
+    RECORD_BYTE(place, wrong), OFFER_REFUSED(0, 0, 10), SETTLE_REFUSED("FB", 10),                \
+        RECORD_BYTE(place, right)
+
+#define MARK(part) (GURVOKE_MARKS_PLACE + (part))
+
+/* One variable, one clock: the programs that more than one station has, and their tables. */
+#define GOAL_1 "01 01 01  01  00 00 01 00"
+#define GOAL_1_TABLE "01 01 01  01 01 FF FF 00 00 01 00"
+#define WAITS "03 01 01 04 02 03 02 00 00 00 00 00 00 00 03 00 0A 00"
+#define WAITS_TABLE                                                                              \
+    "03 01 01"                                                                                   \
+    "04 03 FF FF 02 00 00 00"                                                                    \
+    "02 02 00 02 00 00 00 00"                                                                    \
+    "03 03 00 FF 03 00 0A 00"
+#define WAITS_BELOW "03 01 01  04 02 03  02 00 00 00  00 00 00 00  04 00 05 00"
+#define WAITS_BELOW_TABLE                                                                        \
+    "03 01 01"                                                                                   \
+    "04 03 FF FF 02 00 00 00"                                                                    \
+    "02 02 00 02 00 00 00 00"                                                                    \
+    "03 03 00 FF 04 00 05 00"
+
+/* REPEATs: the kinds and the operands of 15, and the file of 16 above a GOAL. */
+#define KINDS_5 "08 08 08 08 08"
+#define KINDS_15 KINDS_5 KINDS_5 KINDS_5
+#define OPERANDS_3 "00 00 00 00  00 00 00 00  00 00 00 00"
+#define OPERANDS_15 OPERANDS_3 OPERANDS_3 OPERANDS_3 OPERANDS_3 OPERANDS_3
+#define REPEATS_16 "11 01 01" KINDS_15 "08 01" OPERANDS_15 "00 00 00 00  00 00 01 00"
+
+/* Station 2 with one estimate of "any settling", station 3 with one time of "any first time". */
+#define SETTLED_WITH(estimate)                                                                   \
+    BEGUN("02", "11"), OFFERED(0, "FF", "10"), FINISHED(estimate, "00"), FINISHED_IN(1)
+#define FIRST_AT(time) BEGUN("00", "11"), OFFERED(time, "01", "11")
+
+static const struct step steps[] = {
+    STATION("station 1"), /* GOAL 0=1 */
+    COMPILED(GOAL_1, GOAL_1_TABLE),
+    BEGUN("00", "1"),
+    OFFERED(0, "01", "1"),
+    RUNNING("00", "1"),
+    OFFERED(0, "01", "1"),
+    FINISHED("01", "0"),
+    FINISHED_IN(2),
+
+    STATION("station 2"), /* MAINTAIN(0 differs from 2, GOAL 0=1) */
+    COMPILED("02 01 01  06 01  02 00 02 00  00 00 01 00",
+             "02 01 01  06 02 FF FF 02 00 02 00  01 02 00 FF 00 00 01 00"),
+    SETTLED_WITH("00"),
+    SETTLED_WITH("01"),
+    SETTLED_WITH("02"),
+    SETTLED_WITH("03"),
+    SETTLED_WITH("FA"),
+
+    STATION("station 3"), /* MAINTAIN(clock 0 below 5, GOAL 0=1) */
+    COMPILED("02 01 01  06 01  04 00 05 00  00 00 01 00",
+             "02 01 01  06 02 FF FF 04 00 05 00  01 02 00 FF 00 00 01 00"),
+    FIRST_AT(0),
+    FIRST_AT(1),
+    FIRST_AT(4),
+    FIRST_AT(5),
+    FIRST_AT(6),
+    FIRST_AT(7),
+    FIRST_AT(256),
+    FIRST_AT(65536),
+    FIRST_AT(4294967295u),
+
+    STATION("station 4"), /* CHOICE(clock 0 at least 0; GOAL 0=1; GOAL 0=2) */
+    COMPILED("03 01 01  07 01 01  03 00 00 00  00 00 01 00  00 00 02 00",
+             "03 01 01"
+             "07 03 FF FF 03 00 00 00"
+             "01 02 00 FF 00 00 01 00"
+             "01 03 00 FF 00 00 02 00"),
+    BEGUN("00", "100"),
+    OFFERED(0, "FF", "100"),
+    RUNNING("00", "101"),
+    OFFERED(0, "02", "101"),
+    FINISHED_IN(0),
+
+    STATION("station 5"), /* PAR(GOAL 0=1, GOAL 0=2) */
+    COMPILED("03 01 01  05 01 01  02 00 00 00  00 00 01 00  00 00 02 00",
+             "03 01 01"
+             "05 03 FF FF 02 00 00 00"
+             "01 02 00 FF 00 00 01 00"
+             "01 03 00 FF 00 00 02 00"),
+    BEGUN("00", "111"),
+    OFFERED(0, "FE", "111"),
+    RUNNING("01", "101"),
+    OFFERED(0, "02", "101"),
+    FINISHED_IN(0),
+
+    STATION("station 6"), /* REPEAT(GOAL 0=1) */
+    COMPILED("02 01 01  08 01  00 00 00 00  00 00 01 00",
+             "02 01 01  08 02 FF FF 00 00 00 00  01 02 00 01 00 00 01 00"),
+    BEGUN("00", "11"),
+    OFFERED(0, "01", "11"),
+    RUNNING("01", "11"),
+    OFFERED(0, "01", "11"),
+    FINISHED_IN(0),
+
+    STATION("station 7"), /* SEQ(START 0, START 0) */
+    COMPILED("03 01 01  04 02 02  02 00 00 00  00 00 00 00  00 00 00 00",
+             "03 01 01"
+             "04 03 FF FF 02 00 00 00"
+             "02 02 00 02 00 00 00 00"
+             "02 03 00 FF 00 00 00 00"),
+    BEGUN("00", "110"),
+    OFFERED(10, "FF", "110"),
+    STARTS(0, 10),
+    RUNNING("00", "101"),
+    OFFERED(20, "FF", "101"),
+    FINISHED("00", "000"),
+    FINISHED_IN(2),
+
+    STATION("station 8"), /* SEQ(START 0, WAIT clock 0 at least 10) */
+    COMPILED(WAITS, WAITS_TABLE),
+    BEGUN("00", "110"),
+    OFFERED(100, "FF", "110"),
+    STARTS(0, 100),
+    RUNNING("00", "101"),
+    OFFERED(109, "FF", "101"),
+    RUNNING("00", "101"),
+    OFFERED(110, "FF", "101"),
+    FINISHED("00", "000"),
+    FINISHED_IN(3),
+
+    STATION("station 9"), /* 15 REPEATs above a GOAL, and 16 */
+    COMPILED("10 01 01" KINDS_15 "01" OPERANDS_15 "00 00 01 00",
+             "10 01 01"
+             "08 10 FF FF 00 00 00 00"
+             "08 10 00 01 00 00 00 00"
+             "08 10 01 02 00 00 00 00"
+             "08 10 02 03 00 00 00 00"
+             "08 10 03 04 00 00 00 00"
+             "08 10 04 05 00 00 00 00"
+             "08 10 05 06 00 00 00 00"
+             "08 10 06 07 00 00 00 00"
+             "08 10 07 08 00 00 00 00"
+             "08 10 08 09 00 00 00 00"
+             "08 10 09 0A 00 00 00 00"
+             "08 10 0A 0B 00 00 00 00"
+             "08 10 0B 0C 00 00 00 00"
+             "08 10 0C 0D 00 00 00 00"
+             "08 10 0D 0E 00 00 00 00"
+             "01 10 0E 0F 00 00 01 00"),
+    BEGUN("00", "1111111111111111"),
+    OFFERED(0, "01", "1111111111111111"),
+    RUNNING("01", "1111111111111111"),
+    FILE_REFUSED(REPEATS_16, GURVOKE_MAX_TABLE, 7),
+
+    STATION("station 10"), /* a file, its table, and the file again */
+    COMPILED(WAITS, WAITS_TABLE),
+
+    STATION("misreading 1"), /* a clock started this cycle read at this settling */
+    /* PAR(START 0, WAIT clock 0 at least 0): the WAIT waits for one more cycle */
+    COMPILED("03 01 01  05 02 03  02 00 00 00  00 00 00 00  03 00 00 00",
+             "03 01 01"
+             "05 03 FF FF 02 00 00 00"
+             "02 02 00 FF 00 00 00 00"
+             "03 03 00 FF 03 00 00 00"),
+    BEGUN("00", "111"),
+    OFFERED(10, "FF", "111"),
+    STARTS(0, 10),
+    RUNNING("00", "101"),
+    OFFERED(10, "FF", "101"),
+    FINISHED("00", "000"),
+    FINISHED_IN(2),
+
+    STATION("misreading 2"), /* an unstarted clock taken as 0, so "below 5" holds */
+    /* WAIT clock 0 below 5: it is not satisfied */
+    COMPILED("01 01 01  03  04 00 05 00", "01 01 01  03 01 FF FF 04 00 05 00"),
+    BEGUN("00", "1"),
+    OFFERED(0, "FF", "1"),
+    RUNNING("00", "1"),
+    OFFERED(4, "FF", "1"),
+    RUNNING("00", "1"),
+    /* MAINTAIN(clock 0 at least 5, GOAL 0=1): it is not violated either */
+    COMPILED("02 01 01  06 01  03 00 05 00  00 00 01 00",
+             "02 01 01  06 02 FF FF 03 00 05 00  01 02 00 FF 00 00 01 00"),
+    FIRST_AT(0),
+    FIRST_AT(5),
+    FIRST_AT(7),
+
+    STATION("misreading 3"), /* a CHOICE whose branch has just ended taken for a deciding one */
+    /* SEQ(CHOICE(0=0; GOAL 0=1; GOAL 0=2), GOAL 0=3), without a clock: it ends with its branch */
+    COMPILED("05 01 00  04 07 01 01 01"
+             "02 00 00 00  01 00 00 00  00 00 01 00  00 00 02 00  00 00 03 00",
+             "05 01 00"
+             "04 05 FF FF 02 00 00 00"
+             "07 04 00 04 01 00 00 00"
+             "01 03 01 FF 00 00 01 00"
+             "01 04 01 FF 00 00 02 00"
+             "01 05 00 FF 00 00 03 00"),
+    BEGUN("00", "11000"),
+    OFFERED(0, "FF", "11000"),
+    RUNNING("00", "11100"),
+    OFFERED(0, "01", "11100"),
+    RUNNING("01", "10001"),
+    OFFERED(0, "03", "10001"),
+    FINISHED("03", "00000"),
+    FINISHED_IN(3),
+
+    STATION("misreading 4"), /* a part initialised at this settling judged in the same settling */
+    /* SEQ(GOAL 0=1, GOAL 0=1): a cycle for each */
+    COMPILED("03 01 00  04 01 01  02 00 00 00  00 00 01 00  00 00 01 00",
+             "03 01 00"
+             "04 03 FF FF 02 00 00 00"
+             "01 02 00 02 00 00 01 00"
+             "01 03 00 FF 00 00 01 00"),
+    BEGUN("00", "110"),
+    OFFERED(0, "01", "110"),
+    RUNNING("01", "101"),
+    OFFERED(0, "01", "101"),
+    FINISHED("01", "000"),
+    FINISHED_IN(2),
+
+    STATION("WAIT on a value"), /* WAIT 0=1 */
+    COMPILED("01 01 01  03  01 00 01 00", "01 01 01  03 01 FF FF 01 00 01 00"),
+    BEGUN("00", "1"),
+    OFFERED(0, "FF", "1"),
+    RUNNING("00", "1"),
+    OFFERED(0, "FF", "1"),
+    FINISHED("01", "0"),
+    FINISHED_IN(2),
+
+    STATION("WAIT below"), /* SEQ(START 0, WAIT clock 0 below 5), on either side of 5 */
+    COMPILED(WAITS_BELOW, WAITS_BELOW_TABLE),
+    BEGUN("00", "110"),
+    OFFERED(10, "FF", "110"),
+    STARTS(0, 10),
+    RUNNING("00", "101"),
+    OFFERED(15, "FF", "101"),
+    RUNNING("00", "101"),
+    FINISHED_IN(0),
+    BEGUN("00", "110"),
+    OFFERED(10, "FF", "110"),
+    STARTS(0, 10),
+    RUNNING("00", "101"),
+    OFFERED(14, "FF", "101"),
+    FINISHED("00", "000"),
+    FINISHED_IN(2),
+
+    STATION("values of two bytes"), /* SEQ(START 0, WAIT clock 0 at least 300) */
+    COMPILED("03 01 01  04 02 03  02 00 00 00  00 00 00 00  03 00 2C 01",
+             "03 01 01"
+             "04 03 FF FF 02 00 00 00"
+             "02 02 00 02 00 00 00 00"
+             "03 03 00 FF 03 00 2C 01"),
+    BEGUN("00", "110"),
+    OFFERED(1000, "FF", "110"),
+    STARTS(0, 1000),
+    RUNNING("00", "101"),
+    OFFERED(1299, "FF", "101"),
+    RUNNING("00", "101"),
+    OFFERED(1300, "FF", "101"),
+    FINISHED("00", "000"),
+    /* SEQ(START 0, MAINTAIN(clock 0 below 65535, GOAL 0=1)): violated from 65535 on, for ever */
+    COMPILED("04 01 01  04 02 06 01  02 00 00 00  00 00 00 00  04 00 FF FF  00 00 01 00",
+             "04 01 01"
+             "04 04 FF FF 02 00 00 00"
+             "02 02 00 02 00 00 00 00"
+             "06 04 00 FF 04 00 FF FF"
+             "01 04 02 FF 00 00 01 00"),
+    BEGUN("00", "1100"),
+    OFFERED(1, "FF", "1100"),
+    STARTS(0, 1),
+    RUNNING("00", "1011"),
+    OFFERED(65535, "01", "1011"),
+    RUNNING("00", "1011"),
+    OFFERED(65537, "FF", "1010"),
+    FINISHED("00", "0000"),
+    FINISHED_IN(3),
+
+    STATION("the largest value"), /* GOAL 0=250; 251 is refused, and so is an estimate of 251 */
+    COMPILED("01 01 00  01  00 00 FA 00", "01 01 00  01 01 FF FF 00 00 FA 00"),
+    BEGUN("FA", "1"),
+    OFFERED(0, "FA", "1"),
+    SETTLE_REFUSED("FB", 13),
+    FINISHED("FA", "0"),
+    FILE_REFUSED("01 01 00  01  00 00 FB 00", GURVOKE_MAX_TABLE, 5),
+    FILE_REFUSED("01 01 00  01  00 00 00 01", GURVOKE_MAX_TABLE, 5),
+    /* WAIT 0=250, WAIT 0 differs from 250: the same bounds */
+    COMPILED("01 01 00  03  01 00 FA 00", "01 01 00  03 01 FF FF 01 00 FA 00"),
+    FILE_REFUSED("01 01 00  03  01 00 FB 00", GURVOKE_MAX_TABLE, 5),
+    FILE_REFUSED("01 01 00  03  01 00 01 01", GURVOKE_MAX_TABLE, 5),
+    COMPILED("01 01 00  03  02 00 FA 00", "01 01 00  03 01 FF FF 02 00 FA 00"),
+    FILE_REFUSED("01 01 00  03  02 00 FB 00", GURVOKE_MAX_TABLE, 5),
+    FILE_REFUSED("01 01 00  03  02 00 01 01", GURVOKE_MAX_TABLE, 5),
+
+    STATION("contested variables"),
+    /* PAR(GOAL 1=1, GOAL 1=2, GOAL 2=7, GOAL 2=8, GOAL 3=9, GOAL 3=9): 1 and 2 are contested, and
+     * either may be named */
+    COMPILED("07 04 00  05 01 01 01 01 01 01"
+             "06 00 00 00  00 01 01 00  00 01 02 00  00 02 07 00"
+             "00 02 08 00  00 03 09 00  00 03 09 00",
+             "07 04 00"
+             "05 07 FF FF 06 00 00 00"
+             "01 02 00 FF 00 01 01 00"
+             "01 03 00 FF 00 01 02 00"
+             "01 04 00 FF 00 02 07 00"
+             "01 05 00 FF 00 02 08 00"
+             "01 06 00 FF 00 03 09 00"
+             "01 07 00 FF 00 03 09 00"),
+    BEGUN("00 00 00 00", "1111111"),
+    OFFERED(3, "FF FE FE 09", "1111111"),
+    RUNNING("05 02 00 06", "1101111"),
+    OFFERED(3, "FF 01 FE 09", "1101111"),
+    RUNNING("05 02 07 06", "1100111"),
+    OFFERED(3, "FF 01 08 09", "1100111"),
+    RUNNING("05 02 08 09", "1100000"),
+    OFFERED(3, "FF 01 FF FF", "1100000"),
+    FINISHED("05 01 08 09", "0000000"),
+    FINISHED_IN(4),
+
+    STATION("a MAINTAIN that breaks starts no clock"), /* MAINTAIN(0=0, START 0) */
+    COMPILED("02 01 01  06 02  01 00 00 00  00 00 00 00",
+             "02 01 01  06 02 FF FF 01 00 00 00  02 02 00 FF 00 00 00 00"),
+    BEGUN("01", "11"),
+    OFFERED(8, "FF", "10"),
+    FINISHED("00", "00"),
+    FINISHED_IN(1),
+
+    STATION("a doubtful cycle"), /* docs/DEFINITIONS.md goes through it */
+    COMPILED("07 02 01  04 06 04 02 03 01 01"
+             "02 00 00 00  01 01 00 00  03 00 00 00  00 00 00 00"
+             "03 00 0A 00  00 00 02 00  00 00 01 00",
+             "07 02 01"
+             "04 07 FF FF 02 00 00 00"
+             "06 06 00 06 01 01 00 00"
+             "04 06 01 FF 03 00 00 00"
+             "02 04 02 04 00 00 00 00"
+             "03 05 02 05 03 00 0A 00"
+             "01 06 02 FF 00 00 02 00"
+             "01 07 00 FF 00 00 01 00"),
+    BEGUN("00 00", "1111000"),
+    OFFERED(100, "FF FF", "1111000"),
+    STARTS(0, 100),
+    RUNNING("00 00", "1110100"),
+    OFFERED(109, "FF FF", "1110100"),
+    RUNNING("00 01", "1110100"),
+    OFFERED(110, "FF FF", "1100000"),
+    RUNNING("00 00", "1000001"),
+    OFFERED(110, "01 FF", "1000001"),
+    FINISHED("01 00", "0000000"),
+    FINISHED_IN(4),
+
+    STATION("a REPEAT beside a WAIT"),
+    /* PAR(WAIT clock 0 at least 20, REPEAT(SEQ(START 0, CHOICE(clock 0 at least 10; GOAL 0=1;
+     * GOAL 0=2)))): the CHOICE decides twice, ends with its branch each time, and the clock that is
+     * started keeps its start */
+    COMPILED("08 01 01  05 03 08 04 02 07 01 01"
+             "02 00 00 00  03 00 14 00  00 00 00 00  02 00 00 00"
+             "00 00 00 00  03 00 0A 00  00 00 01 00  00 00 02 00",
+             "08 01 01"
+             "05 08 FF FF 02 00 00 00"
+             "03 02 00 FF 03 00 14 00"
+             "08 08 00 FF 00 00 00 00"
+             "04 08 02 03 02 00 00 00"
+             "02 05 03 05 00 00 00 00"
+             "07 08 03 FF 03 00 0A 00"
+             "01 07 05 FF 00 00 01 00"
+             "01 08 05 FF 00 00 02 00"),
+    BEGUN("00", "11111000"),
+    OFFERED(5, "FF", "11111000"),
+    STARTS(0, 5),
+    RUNNING("00", "11110100"),
+    OFFERED(14, "FF", "11110100"), /* the clock reads 9: the second child */
+    RUNNING("00", "11110101"),
+    OFFERED(15, "02", "11110101"),
+    RUNNING("02", "11111000"),
+    OFFERED(24, "FF", "11111000"), /* the clock reads 19 */
+    RUNNING("00", "11110100"),
+    OFFERED(25, "FF", "11110100"), /* it reads 20: the WAIT ends, and the first child */
+    RUNNING("00", "10110110"),
+    OFFERED(25, "01", "10110110"),
+    RUNNING("01", "10111000"),
+    FINISHED_IN(0),
+
+    STATION("refusals of files"), /* 1 to 7, each over all parts, then 8 */
+    FILE_REFUSED("", 0, 1),
+    FILE_REFUSED("00 01", 0, 1),
+    FILE_REFUSED("00 01 00", 0, 2),
+    FILE_REFUSED("C9 20 10", 0, 2),
+    FILE_REFUSED("C8 00 10", 0, 2),
+    FILE_REFUSED("C8 21 10", 0, 2),
+    FILE_REFUSED("C8 20 11", 0, 2),
+    FILE_REFUSED("C8 20 10", 0, 3),
+    FILE_REFUSED("01 01 00 01", 0, 3),
+    FILE_REFUSED("01 01 00  01  00 00 01 00  00", 0, 3),
+    FILE_REFUSED("01 01 00 09 00 00 00 00", 0, 4),
+    FILE_REFUSED("01 01 00 00 00 00 00 00", 0, 4),
+    FILE_REFUSED("02 01 00  01 09  00 01 00 00  00 00 00 00", 0, 4), /* and 5 before it, and 6 */
+    FILE_REFUSED("01 01 00 01 00 01 00 00", 0, 5),
+    FILE_REFUSED("02 01 00  01 01  00 00 00 00  00 01 00 00", 0, 5), /* and 6 */
+    FILE_REFUSED("01 01 00  01  01 00 01 00", 0, 5), /* GOAL: b0 = 0 */
+    FILE_REFUSED("01 01 01  02  01 00 00 00", 0, 5), /* START: b1 clock, others 0 */
+    FILE_REFUSED("01 01 01  02  00 01 00 00", 0, 5),
+    FILE_REFUSED("01 01 01  02  00 00 01 00", 0, 5),
+    FILE_REFUSED("01 01 01  02  00 00 00 01", 0, 5),
+    FILE_REFUSED("01 01 01  03  00 00 00 00", 0, 5), /* conditions: b0 is 1 to 4 */
+    FILE_REFUSED("01 01 01  03  05 00 00 00", 0, 5),
+    FILE_REFUSED("01 01 01  03  01 01 00 00", 0, 5),
+    FILE_REFUSED("01 01 01  03  02 01 00 00", 0, 5),
+    FILE_REFUSED("01 02 01  03  03 01 00 00", 0, 5),
+    FILE_REFUSED("01 02 01  03  04 01 00 00", 0, 5),
+    FILE_REFUSED("02 01 01  06 01  05 00 00 00  00 00 00 00", 0, 5), /* MAINTAIN and CHOICE too */
+    FILE_REFUSED("03 01 01  07 01 01  05 00 00 00  00 00 00 00  00 00 00 00", 0, 5),
+    FILE_REFUSED("01 01 00  04  00 00 00 00", 0, 5), /* SEQ and PAR: at least 1, others 0 */
+    FILE_REFUSED("01 01 00  05  00 00 00 00", 0, 5),
+    FILE_REFUSED("02 01 00  04 01  01 01 00 00  00 00 00 00", 0, 5),
+    FILE_REFUSED("02 01 00  04 01  01 00 01 00  00 00 00 00", 0, 5),
+    FILE_REFUSED("02 01 00  05 01  01 00 00 01  00 00 00 00", 0, 5),
+    FILE_REFUSED("02 01 00  08 01  01 00 00 00  00 00 00 00", 0, 5), /* REPEAT: all 0 */
+    FILE_REFUSED("02 01 00  08 01  00 01 00 00  00 00 00 00", 0, 5),
+    FILE_REFUSED("02 01 00  08 01  00 00 01 00  00 00 00 00", 0, 5),
+    FILE_REFUSED("02 01 00  08 01  00 00 00 01  00 00 00 00", 0, 5),
+    FILE_REFUSED("01 01 00 08 00 00 00 00", 0, 6),
+    FILE_REFUSED("02 01 00  01 01  00 00 00 00  00 00 00 00", 0, 6), /* two trees */
+    FILE_REFUSED("03 01 00  04 01 01  01 00 00 00  00 00 00 00  00 00 00 00", 0, 6),
+    FILE_REFUSED("02 01 00  07 01  01 00 00 00  00 00 00 00", 0, 6), /* one child for a CHOICE */
+    FILE_REFUSED("12 01 00" KINDS_15 "08 08 08" OPERANDS_15 OPERANDS_3, 0, 6), /* 18 levels */
+    FILE_REFUSED(REPEATS_16, 0, 7),
+    FILE_REFUSED(GOAL_1, 10, 8),
+    FILE_REFUSED(GOAL_1, 0, 8),
+
+    STATION("refusals of tables"), /* 9, then 8 */
+    TABLE_REFUSED("", 0, 9),
+    TABLE_REFUSED("01 01 00", 0, 9),
+    TABLE_REFUSED(GOAL_1_TABLE "00", GURVOKE_MAX_FILE, 9),
+    TABLE_REFUSED(GOAL_1_TABLE, 7, 8),
+    TABLE_REFUSED("01 01 01  01 01 FF FF 00 01 01 00", 0, 9), /* an operand */
+    TABLE_REFUSED("01 01 01  01 02 FF FF 00 00 01 00", 0, 9), /* the root's links */
+    TABLE_REFUSED("01 01 01  01 01 00 FF 00 00 01 00", 0, 9),
+    TABLE_REFUSED("01 01 01  01 01 FF 00 00 00 01 00", 0, 9),
+    TABLE_REFUSED("02 01 01  08 02 FF FF 00 00 00 00  01 01 00 01 00 00 01 00", 0, 9),
+    TABLE_REFUSED("02 01 01  08 02 FF FF 00 00 00 00  01 02 FF 01 00 00 01 00", 0, 9),
+    TABLE_REFUSED("02 01 01  08 02 FF FF 00 00 00 00  01 02 00 FF 00 00 01 00", 0, 9),
+    /* Every call of a run looks at the table first. */
+    COMPILED(WAITS, WAITS_TABLE),
+    BEGUN("00", "110"),
+    TABLE_BYTE(GURVOKE_ROW_PLACE(1) + GURVOKE_NEXT_PLACE, 255),
+    RECORD_BYTE(GURVOKE_PHASE_PLACE, 7),
+    BEGIN_REFUSED("FB", 0, 9),
+    OFFER_REFUSED(0, 0, 9),
+    SETTLE_REFUSED("FB", 9),
+
+    STATION("refusals of records"), /* 10; after SEQ and START are marked, the clock unstarted */
+    COMPILED(WAITS, WAITS_TABLE),
+    BEGUN("00", "110"),
+    RECORD_LENT(GURVOKE_RECORD - 1),
+    OFFER_REFUSED(0, 0, 10),
+    SETTLE_REFUSED("FB", 10),
+    RECORD_LENT(GURVOKE_RECORD),
+    NOT_ALLOWED(GURVOKE_PHASE_PLACE, 7, 0),
+    NOT_ALLOWED(GURVOKE_PHASE_PLACE, 3, 0),
+    NOT_ALLOWED(GURVOKE_PHASE_PLACE, 2, 0), /* in phase 2 no mark is set */
+    NOT_ALLOWED(GURVOKE_ESTIMATE_PLACE, 251, 0),
+    NOT_ALLOWED(GURVOKE_ESTIMATE_PLACE + 1, 1, 0), /* beyond V, K and N */
+    NOT_ALLOWED(GURVOKE_STARTED_PLACE + 1, 1, 0),
+    NOT_ALLOWED(GURVOKE_START_PLACE(1), 1, 0),
+    NOT_ALLOWED(MARK(3), 1, 0),
+    NOT_ALLOWED(GURVOKE_RECORD - 1, 1, 0),
+    NOT_ALLOWED(GURVOKE_STARTED_PLACE, 2, 0),
+    NOT_ALLOWED(GURVOKE_START_PLACE(0) + 3, 1, 0), /* an unstarted clock's time */
+    NOT_ALLOWED(MARK(1), 2, 1),
+    NOT_ALLOWED(MARK(0), 0, 1), /* the root */
+    NOT_ALLOWED(MARK(1), 0, 1), /* no child of a SEQ, and two */
+    NOT_ALLOWED(MARK(2), 1, 0),
+    OFFERED(4, "FF", "110"),
+    STARTS(0, 4),
+    RUNNING("00", "101"),
+    NOT_ALLOWED(GURVOKE_START_PLACE(0), 5, 4), /* a start after the last time */
+    /* MAINTAIN(0=0, REPEAT(PAR(CHOICE(0=0; GOAL 0=1; GOAL 0=2), GOAL 0=3))) */
+    COMPILED("07 01 00  06 08 05 07 01 01 01"
+             "01 00 00 00  00 00 00 00  02 00 00 00  01 00 00 00"
+             "00 00 01 00  00 00 02 00  00 00 03 00",
+             "07 01 00"
+             "06 07 FF FF 01 00 00 00"
+             "08 07 00 FF 00 00 00 00"
+             "05 07 01 02 02 00 00 00"
+             "07 06 02 FF 01 00 00 00"
+             "01 05 03 FF 00 00 01 00"
+             "01 06 03 FF 00 00 02 00"
+             "01 07 02 FF 00 00 03 00"),
+    BEGUN("00", "1111001"),
+    RECORD_BYTE(MARK(4), 1), /* allowed */
+    NOT_ALLOWED(MARK(5), 1, 0), /* two children of a CHOICE */
+    NOT_ALLOWED(MARK(3), 0, 1), /* a mark inside an unmarked part */
+    RECORD_BYTE(MARK(3), 0),
+    RECORD_BYTE(MARK(4), 0),
+    NOT_ALLOWED(MARK(6), 0, 1), /* no child of a PAR */
+    RECORD_BYTE(MARK(6), 0),
+    NOT_ALLOWED(MARK(2), 0, 0), /* no child of a REPEAT */
+    RECORD_BYTE(MARK(2), 0),
+    NOT_ALLOWED(MARK(1), 0, 0), /* no child of a MAINTAIN in phase 0, but in phase 1 */
+    RECORD_BYTE(GURVOKE_PHASE_PLACE, 1),
+    FINISHED("00", "0000000"),
+
+    STATION("refusals of a run"), /* of two that apply, the first in the order of its call */
+    COMPILED(GOAL_1, GOAL_1_TABLE),
+    BEGIN_REFUSED("FB", 316, 13),
+    BEGIN_REFUSED("", 316, 13),
+    BEGIN_REFUSED("00 00", 316, 13),
+    BEGIN_REFUSED("00", 316, 8),
+    BEGUN("00", "1"),
+    SETTLE_REFUSED("FB", 11),
+    OFFERED(5, "01", "1"),
+    SETTLE_REFUSED("FB", 13),
+    SETTLE_REFUSED("", 13),
+    SETTLE_REFUSED("00 00", 13),
+    OFFER_REFUSED(4, 0, 11),
+    RUNNING("00", "1"),
+    SETTLE_REFUSED("00", 11),
+    OFFER_REFUSED(4, 0, 12),
+    OFFER_REFUSED(5, 0, 8),
+    OFFERED(10, "01", "1"),
+    RUNNING("00", "1"),
+    OFFER_REFUSED(9, 1, 12),
+    OFFERED(10, "01", "1"),
+    FINISHED("01", "0"),
+    OFFER_REFUSED(9, 0, 14),
+    SETTLE_REFUSED("FB", 14),
+    FINISHED_IN(3),
+};
+
+enum { STEPS = sizeof steps / sizeof steps[0] };
+
+/* How much longer the longer buffers are; and the byte that fills them before a station. */
+enum { FURTHER = 5, UNTOUCHED = 0xA5 };
+
+/* The buffers that are lent to the calls, and what must stand in them. */
+struct buffers {
+    uint8_t file[GURVOKE_MAX_FILE + FURTHER];
+    uint8_t table[GURVOKE_MAX_TABLE + FURTHER];
+    uint8_t record[GURVOKE_RECORD + FURTHER];
+    uint8_t goals[GURVOKE_MAX_VARIABLES + FURTHER];
+};
+
+static struct buffers lent, right;
+static size_t further; /* 0, or FURTHER */
+static size_t table_len;
+static size_t record_len;
+static uint32_t cycles; /* settlings that were not refused, */
+static uint32_t finishing; /* and how many there were when the phase was first 2, or 0 */
+static const char *name; /* of the station */
+static int call; /* counted in each station */
+
+static unsigned digit_of(char sign)
+{
+    return sign >= 'A' ? (unsigned)(sign - 'A') + 10 : (unsigned)(sign - '0');
+}
+
+static size_t read_bytes(const char *text, uint8_t *bytes)
+{
+    size_t count = 0;
+    for (; *text != '\0'; text++) {
+        if (*text == ' ')
+            continue;
+        bytes[count++] = (uint8_t)(16 * digit_of(text[0]) + digit_of(text[1]));
+        text++;
+    }
+    return count;
+}
+
+static void read_marks(const char *text, uint8_t *marks)
+{
+    for (size_t part = 0; text[part] != '\0'; part++)
+        marks[part] = (uint8_t)digit_of(text[part]);
+}
+
+static void write_time(uint8_t *bytes, uint32_t time)
+{
+    for (int byte = 0; byte < GURVOKE_TIME; byte++)
+        bytes[byte] = (uint8_t)(time >> 8 * byte);
+}
+
+/* The comparisons: each says the first difference. */
+static bool is_same(const char *what, const uint8_t *is, const uint8_t *must_be, size_t length)
+{
+    for (size_t place = 0; place < length; place++) {
+        if (is[place] != must_be[place]) {
+            printf("%s: call %d: byte %lu of the %s is %02X and not %02X\n", name, call,
+                   (unsigned long)place, what, is[place], must_be[place]);
+            return false;
+        }
+    }
+    return true;
+}
+
+static bool are_right(void)
+{
+    return is_same("file", lent.file, right.file, sizeof lent.file) &&
+           is_same("table", lent.table, right.table, sizeof lent.table) &&
+           is_same("goals", lent.goals, right.goals, sizeof lent.goals) &&
+           is_same("record", lent.record, right.record, sizeof lent.record);
+}
+
+static bool is_answer(uint32_t is, uint32_t must_be)
+{
+    if (is != must_be)
+        printf("%s: call %d: the answer is %lu and not %lu\n", name, call, (unsigned long)is,
+               (unsigned long)must_be);
+    return is == must_be;
+}
+
+/* An accepted offer names a variable whose goal byte is FE, any of them, or none where none is. */
+static bool is_offer_answer(uint32_t answer)
+{
+    uint32_t first = GURVOKE_NONE;
+    for (uint32_t v = lent.table[GURVOKE_VARIABLES_PLACE]; v-- > 0;) {
+        if (right.goals[v] != GURVOKE_CONTESTED)
+            continue;
+        if (answer == GURVOKE_ANSWERED + v)
+            return true;
+        first = v;
+    }
+    return is_answer(answer, GURVOKE_ANSWERED + first);
+}
+
+/* The calls. Each first says what must stand in the buffers afterwards. */
+static bool compile(const struct step *step)
+{
+    static uint8_t file[GURVOKE_MAX_FILE];
+    size_t file_len = read_bytes(step->bytes, file);
+    memset(&lent, UNTOUCHED, sizeof lent);
+    memset(&right, UNTOUCHED, sizeof right);
+    table_len = read_bytes(step->after, right.table);
+    record_len = GURVOKE_RECORD + further;
+    size_t room = step->answer == 0 ? table_len + further : step->value;
+    uint32_t answer = gurvoke_compile(file, file_len, lent.table, room);
+    if (!is_answer(answer, step->answer) || !are_right())
+        return false;
+    if (step->answer != 0)
+        return true; /* refused, as it must be: there is no table to give back */
+    memcpy(right.file, file, file_len);
+    answer = gurvoke_decompile(lent.table, table_len, lent.file, file_len + further);
+    return is_answer(answer, 0) && are_right();
+}
+
+static bool decompile(const struct step *step)
+{
+    memset(&lent, UNTOUCHED, sizeof lent);
+    table_len = read_bytes(step->bytes, lent.table);
+    right = lent;
+    uint32_t answer = gurvoke_decompile(lent.table, table_len, lent.file, step->value);
+    return is_answer(answer, step->answer) && are_right();
+}
+
+static bool begin(const struct step *step)
+{
+    uint8_t estimate[GURVOKE_MAX_VARIABLES];
+    size_t estimate_len = read_bytes(step->bytes, estimate);
+    size_t room = step->value;
+    if (step->answer == 0) {
+        room = record_len;
+        cycles = finishing = 0;
+        memset(right.record, 0, GURVOKE_RECORD);
+        memcpy(right.record + GURVOKE_ESTIMATE_PLACE, estimate, estimate_len);
+        read_marks(step->after, right.record + GURVOKE_MARKS_PLACE);
+    }
+    uint32_t answer =
+        gurvoke_begin(lent.table, table_len, estimate, estimate_len, lent.record, room);
+    return is_answer(answer, step->answer) && are_right();
+}
+
+static bool offer(const struct step *step)
+{
+    size_t room = step->value;
+    bool accepted = step->answer >= GURVOKE_ANSWERED;
+    if (accepted) {
+        room = read_bytes(step->bytes, right.goals) + further;
+        right.record[GURVOKE_PHASE_PLACE] = GURVOKE_PHASE_OFFERED;
+        write_time(right.record + GURVOKE_TIME_PLACE, step->number);
+        read_marks(step->after, right.record + GURVOKE_MARKS_PLACE);
+    }
+    uint32_t answer = gurvoke_offer(lent.table, table_len, lent.record, record_len, step->number,
+                                    lent.goals, room);
+    return (accepted ? is_offer_answer(answer) : is_answer(answer, step->answer)) && are_right();
+}
+
+static bool settle(const struct step *step)
+{
+    uint8_t estimate[GURVOKE_MAX_VARIABLES];
+    size_t estimate_len = read_bytes(step->bytes, estimate);
+    if (step->answer >= GURVOKE_ANSWERED) {
+        bool ends = step->answer == GURVOKE_FINISHED;
+        right.record[GURVOKE_PHASE_PLACE] = ends ? GURVOKE_PHASE_FINISHED : GURVOKE_PHASE_WAITING;
+        memcpy(right.record + GURVOKE_ESTIMATE_PLACE, estimate, estimate_len);
+        read_marks(step->after, right.record + GURVOKE_MARKS_PLACE);
+    }
+    uint32_t answer =
+        gurvoke_settle(lent.table, table_len, lent.record, record_len, estimate, estimate_len);
+    cycles += answer >= GURVOKE_ANSWERED;
+    if (finishing == 0 && lent.record[GURVOKE_PHASE_PLACE] == GURVOKE_PHASE_FINISHED)
+        finishing = cycles;
+    return is_answer(answer, step->answer) && are_right();
+}
+
+/* A step, and whether what it says is so. */
+static bool take(const struct step *step)
+{
+    call += step->what == COMPILE || step->what == DECOMPILE || step->what == BEGIN ||
+            step->what == OFFER || step->what == SETTLE;
+    switch (step->what) {
+    case COMPILE:
+        return compile(step);
+    case DECOMPILE:
+        return decompile(step);
+    case BEGIN:
+        return begin(step);
+    case OFFER:
+        return offer(step);
+    case SETTLE:
+        return settle(step);
+    case CLOCK:
+        right.record[GURVOKE_STARTED_PLACE + step->number] = GURVOKE_STARTED;
+        write_time(right.record + GURVOKE_START_PLACE(step->number), (uint32_t)step->value);
+        return true;
+    case CYCLES:
+        if (finishing != step->number)
+            printf("%s: it finishes in cycle %lu and not %lu\n", name, (unsigned long)finishing,
+                   (unsigned long)step->number);
+        return finishing == step->number;
+    case IN_TABLE:
+        lent.table[step->number] = right.table[step->number] = (uint8_t)step->value;
+        return true;
+    case IN_RECORD:
+        lent.record[step->number] = right.record[step->number] = (uint8_t)step->value;
+        return true;
+    case LEND:
+        record_len = step->value;
+        return true;
+    default:
+        return false;
+    }
+}
+
+/* A station's steps up to the next name, or to the first that goes wrong. */
+static bool run(const struct step *station, size_t further_bytes)
+{
+    further = further_bytes;
+    name = station->bytes;
+    call = 0;
+    const struct step *step = station + 1;
+    while (step < steps + STEPS && step->what != NAME) {
+        if (!take(step++))
+            return false;
+    }
+    return true;
+}
+
+int main(void)
+{
+    int status = 0;
+    for (const struct step *step = steps; step < steps + STEPS; step++) {
+        if (step->what != NAME)
+            continue;
+        if (run(step, 0) && run(step, FURTHER))
+            printf("%s: as document 01 says\n", name);
+        else
+            status = 1;
+    }
+    return status;
+}
