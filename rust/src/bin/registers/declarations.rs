@@ -1,4 +1,4 @@
-//! What the crates declare: functions, definitions and laws, each with its file and line.
+//! What the crates declare: functions, definitions, laws and must-fail edits, each with its file and line.
 
 use super::repository::Source;
 
@@ -17,17 +17,20 @@ pub enum Kind {
     Private,
     /// A field of a record of definitions or laws.
     Field,
+    /// A must-fail edit.
+    Edit,
 }
 
 /// All kinds.
 #[cfg(test)]
-pub const KINDS: [Kind; 6] = [
+pub const KINDS: [Kind; 7] = [
     Kind::Function,
     Kind::Item,
     Kind::Definition,
     Kind::Law,
     Kind::Private,
     Kind::Field,
+    Kind::Edit,
 ];
 
 #[derive(Debug)]
@@ -35,7 +38,7 @@ pub struct Declaration {
     pub name: String,
     pub kind: Kind,
     pub crate_name: String,
-    /// The file's name without its ending.
+    /// The file's name without its ending; of an edit, which is a file itself, the folder's.
     pub module: String,
     /// The record that a field belongs to.
     record: Option<String>,
@@ -61,17 +64,18 @@ const ANSWERS: &str = "/Proof.antt";
 pub fn all(sources: &[Source]) -> Vec<Declaration> {
     let mut found = Vec::new();
     for source in sources {
-        let kind = match source.folder() {
-            Some("src") => Kind::Item,
-            Some("specs") => Kind::Definition,
-            Some("proofs") => Kind::Law,
+        let Some(folder) = source.folder() else {
+            continue;
+        };
+        let (module, names) = match folder {
+            "src" => (source.stem(), items(&source.text)),
+            "specs" => (source.stem(), definitions(&source.text, Kind::Definition)),
+            "proofs" if source.path.ends_with(ANSWERS) => continue,
+            "proofs" => (source.stem(), definitions(&source.text, Kind::Law)),
+            "must-fail" => (folder, vec![edit(source)]),
             _ => continue,
         };
-        if kind == Kind::Item {
-            declare(source, items(&source.text), &mut found);
-        } else if !source.path.ends_with(ANSWERS) {
-            declare(source, definitions(&source.text, kind), &mut found);
-        }
+        declare(source, module, names, &mut found);
     }
     found
 }
@@ -84,17 +88,27 @@ struct Found {
     record: Option<String>,
 }
 
-fn declare(source: &Source, names: Vec<Found>, found: &mut Vec<Declaration>) {
+fn declare(source: &Source, module: &str, names: Vec<Found>, found: &mut Vec<Declaration>) {
     for each in names {
         found.push(Declaration {
             name: each.name,
             kind: each.kind,
             crate_name: source.crate_name().unwrap_or("").to_string(),
-            module: source.stem().to_string(),
+            module: module.to_string(),
             record: each.record,
             path: source.path.clone(),
             line: each.line,
         });
+    }
+}
+
+/// A file of a must-fail edit, as a whole.
+fn edit(source: &Source) -> Found {
+    Found {
+        line: 1,
+        name: source.stem().to_string(),
+        kind: Kind::Edit,
+        record: None,
     }
 }
 

@@ -183,11 +183,12 @@ fn lines_have_their_definitions() {
         let source = repository.read(path);
         let found = source.lines().nth(line - 1).unwrap_or("");
         let has_name = found.split_whitespace().any(|word| word == name);
-        let declares = has_name && found.contains(" : ");
+        let is_type = ["pub enum ", "pub struct "].map(|words| found.starts_with(words));
+        let declares = has_name && (found.contains(" : ") || is_type.contains(&true));
         assert!(declares, "{path}:{line} does not declare {name}: {found}");
         seen += 1;
     }
-    assert!(seen > 40, "only {seen} lines are named");
+    assert!(seen > 60, "only {seen} lines are named");
 }
 
 #[test]
@@ -223,7 +224,7 @@ fn sample_is_of_the_example() {
     assert!(log.ends_with(last), "{last}");
 }
 
-/// A wrong line number is noticed, a definition that is not there, and a law that is not there.
+/// A wrong line number is noticed, and a definition, a type, a law and an edit that are not there.
 #[test]
 fn wrong_places_are_noticed() {
     let text = definitions();
@@ -233,8 +234,16 @@ fn wrong_places_are_noticed() {
 
     let new = text.replacen("| `maxParts` |", "| `mostParts` |", 1);
     assert!(fault(&new).contains("mostParts is declared nowhere"));
+    let new = text.replacen("| `Outcome` |", "| `Outcomes` |", 1);
+    assert!(fault(&new).contains("Outcomes is declared nowhere"));
     let new = text.replacen("`seq-one`", "`seq-two`", 1);
     assert!(fault(&new).contains("seq-two is declared nowhere"));
+    let new = text.replacen(
+        "`ended_branch_taken_for_deciding`",
+        "`ended_branch_taken`",
+        1,
+    );
+    assert!(fault(&new).contains("ended_branch_taken is declared nowhere"));
     let new = text.replacen(
         "`Refusals.offer-refused`, `goals",
         "`offer-refused`, `goals",

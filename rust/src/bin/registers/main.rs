@@ -27,7 +27,7 @@ use repository::Repository;
 type Maker = fn(&Repository, &str) -> Result<String, String>;
 
 /// The registers by name.
-const REGISTERS: [(&str, Maker); 10] = [
+const REGISTERS: [(&str, Maker); 11] = [
     ("crates", |repository, _| tables::crates(repository)),
     ("counts", |repository, _| Ok(counts::table(repository))),
     ("must-fail edits", |repository, _| edits::tables(repository)),
@@ -39,6 +39,7 @@ const REGISTERS: [(&str, Maker); 10] = [
     }),
     ("definitions", places::definitions),
     ("sentences", places::sentences),
+    ("instead", places::sentences),
     ("functions", places::functions),
     ("theorems", places::theorems),
     ("tested", tested::table),

@@ -16,12 +16,14 @@ fn add(texts: &mut Vec<String>, text: String) {
     }
 }
 
-/// File and line of the definition that a row begins with.
+/// File and line of the definition, or of the type of the code, that a row begins with.
 pub fn definitions(repository: &Repository, text: &str) -> Result<String, String> {
     filled(text, WHERE, |row| {
-        let name = quoted(row.cell("Definition")).next();
-        let name = name.ok_or_else(|| format!("a row names no definition: {:?}", row.cells))?;
-        let found = resolve(&repository.declarations, &[Kind::Definition], name, &[])?;
+        let first = |title, kind| quoted(row.cell(title)).next().map(|name| (name, kind));
+        let (name, kind) = first("Definition", Kind::Definition)
+            .or_else(|| first("Type", Kind::Item))
+            .ok_or_else(|| format!("a row names no definition: {:?}", row.cells))?;
+        let found = resolve(&repository.declarations, &[kind], name, &[])?;
         Ok(format!("`{}:{}`", found.path, found.line))
     })
 }
@@ -35,7 +37,7 @@ fn files(
 ) -> Result<String, String> {
     filled(text, WHERE, |row| {
         let mut paths = Vec::new();
-        for declared in named_in(&repository.declarations, kinds, row.cell(title))? {
+        for declared in named_in(&repository.declarations, &[kinds], row.cell(title))? {
             add(&mut paths, format!("`{}`", declared.path));
         }
         if paths.is_empty() {
@@ -53,19 +55,26 @@ pub fn theorems(repository: &Repository, text: &str) -> Result<String, String> {
     files(repository, text, "Theorem", &[Kind::Law])
 }
 
-/// The declarations that a cell names. Crates and files, which it may name too, are none.
+/// The declarations that a cell names, each of the first of these kinds that has its name. Crates and files, which it
+/// may name too, are none.
 fn named_in<'a>(
     all: &'a [Declaration],
-    kinds: &[Kind],
+    kinds: &[&[Kind]],
     cell: &str,
 ) -> Result<Vec<&'a Declaration>, String> {
     let words: Vec<&str> = quoted(cell).collect();
-    let is_declared = |word: &&&str| !named(all, kinds, word).is_empty() || !is_place(all, word);
-    words
-        .iter()
-        .filter(is_declared)
-        .map(|word| resolve(all, kinds, word, &words))
-        .collect()
+    let mut found = Vec::new();
+    for word in &words {
+        let declared = kinds
+            .iter()
+            .find(|kinds| !named(all, kinds, word).is_empty());
+        match declared {
+            Some(kinds) => found.push(resolve(all, kinds, word, &words)?),
+            None if is_place(all, word) => {}
+            None => return Err(format!("{word} is declared nowhere")),
+        }
+    }
+    Ok(found)
 }
 
 /// The files of declarations that stand in a crate.
@@ -88,14 +97,18 @@ fn by_crate(found: &[&Declaration]) -> String {
     places.join("; ")
 }
 
+/// The kinds of what a sentence has for definitions: the code's types are among them.
+const DEFINITIONS: [&[Kind]; 2] = [&[Kind::Definition, Kind::Field], &[Kind::Item]];
+
+/// The kinds of what it has for laws: a computed fact, which its file keeps to itself, and an edit are among them.
+const LAWS: [&[Kind]; 2] = [&[Kind::Law, Kind::Field, Kind::Edit], &[Kind::Private]];
+
 /// The files of each sentence's definitions and laws.
 pub fn sentences(repository: &Repository, text: &str) -> Result<String, String> {
     let all = &repository.declarations;
     filled(text, WHERE, |row| {
-        let definitions = [Kind::Definition, Kind::Field];
-        let mut found = named_in(all, &definitions, row.cell("Definition"))?;
-        let laws = [Kind::Law, Kind::Field];
-        found.extend(named_in(all, &laws, row.cell("Law"))?);
+        let mut found = named_in(all, &DEFINITIONS, row.cell("Definition"))?;
+        found.extend(named_in(all, &LAWS, row.cell("Law"))?);
         Ok(by_crate(&found))
     })
 }

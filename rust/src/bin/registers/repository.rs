@@ -111,13 +111,9 @@ impl Repository {
         self.top.join(path).exists()
     }
 
-    /// Whether a word is a name: of what the crates declare, of a crate, of a file in one, or of a must-fail edit.
+    /// Whether a word is a name: of what the crates declare, of a crate, or of a file in one.
     pub fn knows(&self, word: &str) -> bool {
-        let is_edit =
-            |source: &Source| source.folder() == Some("must-fail") && source.stem() == word;
-        !named(&self.declarations, &KINDS, word).is_empty()
-            || is_place(&self.declarations, word)
-            || self.sources.iter().any(is_edit)
+        !named(&self.declarations, &KINDS, word).is_empty() || is_place(&self.declarations, word)
     }
 }
 
