@@ -4,7 +4,8 @@
  * A program file holds a control program as document 01 lays down. Compiling it gives its location
  * table, and decompiling the table gives the file back. A run of the table keeps its state in a
  * run record and proceeds in cycles: an offer (a time goes in, goals come out), then a settling (the
- * new estimate goes in). examples/lander.c is a complete run, examples/board.c a board's main loop.
+ * new estimate goes in). examples/lander.c is a complete run, examples/board.c a board's main loop,
+ * and examples/stations.c tries any library with this header.
  *
  * Buffers
  *   A buffer passes as a pointer to its first byte and then its length in bytes. It may stand at
