@@ -1,67 +1,56 @@
--- The examples of document 01 that concern files and tables, computed by the definitions: one fact over a table of them.
-use Prim.Native.Nat.{ℕ, suc}
+-- The examples of document 01, computed by the definitions: those of "Refusal by refusal", and station 10's table.
+use Prim.Native.Nat.{ℕ}
 use mathlib.Core.Path.{_≡_, refl}
-use mathlib.Core.Bool.{Bool, true}
 use mathlib.Core.List.{List, [], _∷_, _++_}
-use lib.Dec.{eqb}
-use lib.ListN.{replicate}
-use Rattle.base.specs.Lists.{all}
+use lib.ListN.{take, set, replicate}
 use Rattle.meaning.specs.declared.Form.the-variants.{File}
-use Rattle.meaning.specs.declared.Outcome.{Outcome}
-use Rattle.meaning.specs.declared.Outcome.the-variants.{Satisfied, Violated, Open}
-use Rattle.meaning.specs.Kinds.{kindOf, numberOf, known, arity, testOf, testAllowed, conditionAllowed, goalAllowed, startAllowed, countAllowed, emptyAllowed, operandAllowed}
-use Rattle.meaning.specs.Tree.{fold, depth, size}
-use Rattle.meaning.specs.Program.{sizesAllowed, entries, preorder, entryKnown, entryAllowed, arityOf, makePart, takeChildren, trees, treeOf, programRefusal}
-use Rattle.meaning.specs.Conditions.{Situation, outcome}
-use Rattle.meaning.specs.Table.{nextOf, block, tableOf, compiled, compileRefusal}
+use Rattle.meaning.specs.Table.{compiled}
+use Rattle.meaning.specs.Cycle.{begunInto, offeredInto, settledInto}
+use Rattle.meaning.proofs.Computed.{_gets_, Holds, file, compile, decompile, begin, offer, settle}
 
--- n REPEATs above a GOAL 0=1, one variable and no clock
-repeats : ℕ → List ℕ
-repeats n = suc n ∷ 1 ∷ 0 ∷ (replicate n 8 ++ (1 ∷ replicate n 0 ++ (replicate n 0 ++ (replicate n 0 ++ (replicate n 0 ++ (0 ∷ 0 ∷ 1 ∷ 0 ∷ []))))))
+-- n REPEATs above a GOAL
+abbrev repeats : ℕ → List ℕ
+repeats n = file (replicate n (8, 0) ++ ((1, 0) ∷ []))
 
-pub record CompileExample : Type 0 where
-  pub file : List ℕ
-  pub room : ℕ
-  pub refusal : ℕ
+-- the table of GOAL 0=1, for one variable and no clock
+abbrev table : List ℕ
+table = 0x01 ∷ 0x01 ∷ 0x00 ∷ 0x01 ∷ 0x01 ∷ 0xFF ∷ 0xFF ∷ 0x00 ∷ 0x00 ∷ 0x01 ∷ 0x00 ∷ []
 
-agrees : CompileExample → Bool
-agrees x = eqb (compileRefusal (x .file) (x .room)) (x .refusal)
+-- its record after a beginning, and after a cycle at 10 that is settled with an estimate
+abbrev fresh : List ℕ
+fresh = begunInto table (0 ∷ []) (replicate 317 0)
 
-compileExamples : List CompileExample
-compileExamples =
-    record { file = []; room = 2000; refusal = 1 }
-    ∷ record { file = 0x00 ∷ 0x01 ∷ 0x00 ∷ []; room = 2000; refusal = 2 }
-    ∷ record { file = 0x01 ∷ 0x01 ∷ 0x00 ∷ 0x01 ∷ []; room = 2000; refusal = 3 }
-    ∷ record { file = 0x01 ∷ 0x01 ∷ 0x00 ∷ 0x09 ∷ 0x00 ∷ 0x00 ∷ 0x00 ∷ 0x00 ∷ []; room = 2000; refusal = 4 }
-    ∷ record { file = 0x01 ∷ 0x01 ∷ 0x00 ∷ 0x01 ∷ 0x00 ∷ 0x01 ∷ 0x00 ∷ 0x00 ∷ []; room = 2000; refusal = 5 }
-    ∷ record { file = 0x01 ∷ 0x01 ∷ 0x00 ∷ 0x08 ∷ 0x00 ∷ 0x00 ∷ 0x00 ∷ 0x00 ∷ []; room = 2000; refusal = 6 }
-    ∷ record { file = repeats 16; room = 2000; refusal = 7 }
-    ∷ record { file = repeats 15; room = 2000; refusal = 0 }
-    ∷ record { file = repeats 0; room = 10; refusal = 8 }
-    ∷ []
+abbrev cycled : ℕ → List ℕ
+cycled est = settledInto table (offeredInto table fresh 10 1) (est ∷ [])
 
-examples : all agrees compileExamples ≡ true
-unfolding compileExamples agrees repeats kindOf numberOf known arity testOf testAllowed conditionAllowed goalAllowed startAllowed countAllowed emptyAllowed operandAllowed fold depth size sizesAllowed entries preorder entryKnown entryAllowed arityOf makePart takeChildren trees treeOf programRefusal compileRefusal
+-- refusals 1 to 14, with what is accepted beside 7; of 15 the paper says "none known"
+pub examples : Holds
+    (compile [] 2000 gets 1
+    ∷ compile (0x00 ∷ 0x01 ∷ 0x00 ∷ []) 2000 gets 2
+    ∷ compile (0x01 ∷ 0x01 ∷ 0x00 ∷ 0x01 ∷ []) 2000 gets 3
+    ∷ compile (0x01 ∷ 0x01 ∷ 0x00 ∷ 0x09 ∷ 0x00 ∷ 0x00 ∷ 0x00 ∷ 0x00 ∷ []) 2000 gets 4
+    ∷ compile (0x01 ∷ 0x01 ∷ 0x00 ∷ 0x01 ∷ 0x00 ∷ 0x01 ∷ 0x00 ∷ 0x00 ∷ []) 2000 gets 5
+    ∷ compile (0x01 ∷ 0x01 ∷ 0x00 ∷ 0x08 ∷ 0x00 ∷ 0x00 ∷ 0x00 ∷ 0x00 ∷ []) 2000 gets 6
+    ∷ compile (repeats 16) 2000 gets 7
+    ∷ compile (repeats 15) 2000 gets 0
+    ∷ compile (repeats 0) 10 gets 8
+    ∷ decompile (0x01 ∷ 0x01 ∷ 0x00 ∷ []) 2000 gets 9
+    ∷ offer table (set fresh 0 7) 0 1 gets 10  -- "phase byte 7"
+    ∷ offer table (take 316 fresh) 0 1 gets 10  -- "or under 317 bytes"
+    ∷ settle table fresh (0 ∷ []) gets 11  -- "settling a fresh record"
+    ∷ offer table (cycled 0) 9 1 gets 12  -- "offer 9 after 10"
+    ∷ begin table (0xFB ∷ []) 317 gets 13  -- "`FB` for V = 1"
+    ∷ offer table (cycled 1) 10 1 gets 14  -- "offer in phase 2"
+    ∷ [])
+unfolding settle
 examples = refl
 
-file10 : List ℕ
+abbrev file10 : List ℕ
 file10 = 0x03 ∷ 0x01 ∷ 0x01 ∷ 0x04 ∷ 0x02 ∷ 0x03 ∷ 0x02 ∷ 0x00 ∷ 0x00 ∷ 0x00 ∷ 0x00 ∷ 0x00 ∷ 0x00 ∷ 0x00 ∷ 0x03 ∷ 0x00 ∷ 0x0A ∷ 0x00 ∷ []
 
-table10 : List ℕ
+abbrev table10 : List ℕ
 table10 = 3 ∷ 1 ∷ 1 ∷ 4 ∷ 3 ∷ 255 ∷ 255 ∷ 2 ∷ 0 ∷ 0 ∷ 0 ∷ 2 ∷ 2 ∷ 0 ∷ 2 ∷ 0 ∷ 0 ∷ 0 ∷ 0 ∷ 3 ∷ 3 ∷ 0 ∷ 255 ∷ 3 ∷ 0 ∷ 10 ∷ 0 ∷ []
 
-station10 : compiled File file10 ≡ table10
-unfolding file10 table10 kindOf numberOf known arity fold depth size entries preorder arityOf makePart takeChildren trees treeOf nextOf block tableOf compiled
+pub station10 : compiled File file10 ≡ table10
+unfolding compile
 station10 = refl
-
--- Conditions at their bounds, by an estimate of 1, a clock that reads 5, and one that is not started
-abbrev tried : Situation
-tried = record { estimate = 1 ∷ []; started = 1 ∷ 0 ∷ []; starts = 5 ∷ 0 ∷ []; time = 10 }
-
-abbrev test : ℕ → ℕ → ℕ → Outcome
-test b0 b1 b2 = outcome tried (record { b0 = b0; b1 = b1; b2 = b2; b3 = 0 })
-
-conditions : test 1 0 1 ∷ test 1 0 2 ∷ test 2 0 1 ∷ test 2 0 2 ∷ test 3 0 5 ∷ test 3 0 6 ∷ test 4 0 5 ∷ test 4 0 6 ∷ test 3 1 0 ∷ test 4 1 5 ∷ []
-    ≡ Satisfied ∷ Violated ∷ Violated ∷ Satisfied ∷ Satisfied ∷ Violated ∷ Violated ∷ Satisfied ∷ Open ∷ Open ∷ []
-unfolding outcome testOf
-conditions = refl

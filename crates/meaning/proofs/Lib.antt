@@ -1,3 +1,8 @@
+pub mod Computed
+pub mod Bounds
+pub mod Judged
+pub mod RecordBytes
+pub mod Orders
 pub mod Examples
 pub mod Trees
 pub mod Parsing

@@ -1,0 +1,204 @@
+-- Every byte that a call writes, and those that it does not touch: a whole run record, goal buffers, a table and a file; and which records are
+-- allowed, each bound from both sides.
+use Prim.Native.Nat.{ℕ}
+use mathlib.Core.Path.{refl}
+use mathlib.Core.Bool.{Bool, true, false}
+use mathlib.Core.List.{List, [], _∷_, _++_}
+use lib.ListN.{take, replicate}
+use Rattle.meaning.specs.declared.Form.the-variants.{File}
+use Rattle.meaning.specs.Record.{recordBytes}
+use Rattle.meaning.specs.Table.{compiled, compiledInto, decompiledInto}
+use Rattle.meaning.specs.Cycle.{freshRecord, begunInto, offeredInto, goalsInto, settledInto}
+use Rattle.meaning.proofs.Computed.{_gets_, Holds, file, decompile, allowed, offer, settle}
+
+-- PAR(START 1, GOAL 0=250), for 2 variables and 2 clocks
+abbrev started : List ℕ
+started =
+    3 ∷ 2 ∷ 2
+    ∷ 5 ∷ 2 ∷ 1
+    ∷ 2 ∷ 0 ∷ 0 ∷ 0
+    ∷ 0 ∷ 1 ∷ 0 ∷ 0
+    ∷ 0 ∷ 0 ∷ 250 ∷ 0
+    ∷ []
+
+abbrev table : List ℕ
+table =
+    3 ∷ 2 ∷ 2
+    ∷ 5 ∷ 3 ∷ 255 ∷ 255 ∷ 2 ∷ 0 ∷ 0 ∷ 0
+    ∷ 2 ∷ 2 ∷ 0 ∷ 255 ∷ 0 ∷ 1 ∷ 0 ∷ 0
+    ∷ 1 ∷ 3 ∷ 0 ∷ 255 ∷ 0 ∷ 0 ∷ 250 ∷ 0
+    ∷ []
+
+-- PAR(SEQ(GOAL, GOAL), MAINTAIN(GOAL), CHOICE(GOAL, GOAL), REPEAT(GOAL)), for one variable and no clock: each GOAL is 0=0, and each condition
+-- that variable 0 equals 0
+abbrev every : List ℕ
+every = file ((5, 4) ∷ (4, 2) ∷ (1, 0) ∷ (1, 0) ∷ (6, 1) ∷ (1, 0) ∷ (7, 1) ∷ (1, 0) ∷ (1, 0) ∷ (8, 0) ∷ (1, 0) ∷ [])
+
+abbrev everyTable : List ℕ
+everyTable =
+    11 ∷ 1 ∷ 0
+    ∷ 5 ∷ 11 ∷ 255 ∷ 255 ∷ 4 ∷ 0 ∷ 0 ∷ 0
+    ∷ 4 ∷ 4 ∷ 0 ∷ 255 ∷ 2 ∷ 0 ∷ 0 ∷ 0
+    ∷ 1 ∷ 3 ∷ 1 ∷ 3 ∷ 0 ∷ 0 ∷ 0 ∷ 0
+    ∷ 1 ∷ 4 ∷ 1 ∷ 255 ∷ 0 ∷ 0 ∷ 0 ∷ 0
+    ∷ 6 ∷ 6 ∷ 0 ∷ 255 ∷ 1 ∷ 0 ∷ 0 ∷ 0
+    ∷ 1 ∷ 6 ∷ 4 ∷ 255 ∷ 0 ∷ 0 ∷ 0 ∷ 0
+    ∷ 7 ∷ 9 ∷ 0 ∷ 255 ∷ 1 ∷ 0 ∷ 0 ∷ 0
+    ∷ 1 ∷ 8 ∷ 6 ∷ 255 ∷ 0 ∷ 0 ∷ 0 ∷ 0
+    ∷ 1 ∷ 9 ∷ 6 ∷ 255 ∷ 0 ∷ 0 ∷ 0 ∷ 0
+    ∷ 8 ∷ 11 ∷ 0 ∷ 255 ∷ 0 ∷ 0 ∷ 0 ∷ 0
+    ∷ 1 ∷ 11 ∷ 9 ∷ 10 ∷ 0 ∷ 0 ∷ 0 ∷ 0
+    ∷ []
+
+-- n bytes that a call is to write, and two further ones
+abbrev further : List ℕ
+further = 7 ∷ 8 ∷ []
+
+abbrev buffer : ℕ → List ℕ
+buffer n = replicate n 9 ++ further
+
+-- "an output buffer's further bytes are untouched"
+pub program-buffers : Holds
+    (compiledInto started (buffer 27) gets (table ++ further)
+    ∷ compiledInto every (buffer 91) gets (everyTable ++ further)
+    ∷ decompiledInto table (buffer 18) gets (started ++ further)
+    ∷ decompiledInto everyTable (buffer 58) gets (every ++ further)
+    ∷ [])
+unfolding decompile
+program-buffers = refl
+
+-- "Phase; last time, 4; estimate, 32; clock started, 16; clock start times, 16 times 4; marks, 200": a run of it that has begun, that is offered at
+-- a time whose four bytes differ, and that is settled, which starts clock 1 and leaves the GOAL at work; and two further bytes
+abbrev begun : List ℕ
+begun =
+    0
+    ∷ 0 ∷ 0 ∷ 0 ∷ 0
+    ∷ 3 ∷ 4 ∷ replicate 30 0
+    ++ (0 ∷ 0 ∷ replicate 14 0)
+    ++ (0 ∷ 0 ∷ 0 ∷ 0 ∷ 0 ∷ 0 ∷ 0 ∷ 0 ∷ replicate 56 0)
+    ++ (1 ∷ 1 ∷ 1 ∷ replicate 197 0)
+    ++ further
+
+abbrev offered : List ℕ
+offered =
+    1
+    ∷ 0x01 ∷ 0x02 ∷ 0x03 ∷ 0x04
+    ∷ 3 ∷ 4 ∷ replicate 30 0
+    ++ (0 ∷ 0 ∷ replicate 14 0)
+    ++ (0 ∷ 0 ∷ 0 ∷ 0 ∷ 0 ∷ 0 ∷ 0 ∷ 0 ∷ replicate 56 0)
+    ++ (1 ∷ 1 ∷ 1 ∷ replicate 197 0)
+    ++ further
+
+abbrev settled : List ℕ
+settled =
+    0
+    ∷ 0x01 ∷ 0x02 ∷ 0x03 ∷ 0x04
+    ∷ 5 ∷ 250 ∷ replicate 30 0
+    ++ (0 ∷ 1 ∷ replicate 14 0)
+    ++ (0 ∷ 0 ∷ 0 ∷ 0 ∷ 0x01 ∷ 0x02 ∷ 0x03 ∷ 0x04 ∷ replicate 56 0)
+    ++ (1 ∷ 0 ∷ 1 ∷ replicate 197 0)
+    ++ further
+
+pub record-bytes : Holds
+    (begunInto table (3 ∷ 4 ∷ []) (buffer 317) gets begun
+    ∷ offeredInto table begun 0x04030201 2 gets offered
+    ∷ settledInto table offered (5 ∷ 250 ∷ []) gets settled
+    ∷ [])
+unfolding settle
+record-bytes = refl
+
+-- PAR(GOAL 0=1, GOAL 0=2, GOAL 0=1, GOAL 1=7, GOAL 1=7, GOAL 2=1, GOAL 2=1, GOAL 2=2, GOAL 3=0), for 5 variables
+abbrev merging : List ℕ
+merging =
+    10 ∷ 5 ∷ 0
+    ∷ 5 ∷ 1 ∷ 1 ∷ 1 ∷ 1 ∷ 1 ∷ 1 ∷ 1 ∷ 1 ∷ 1
+    ∷ 9 ∷ 0 ∷ 0 ∷ 0
+    ∷ 0 ∷ 0 ∷ 1 ∷ 0
+    ∷ 0 ∷ 0 ∷ 2 ∷ 0
+    ∷ 0 ∷ 0 ∷ 1 ∷ 0
+    ∷ 0 ∷ 1 ∷ 7 ∷ 0
+    ∷ 0 ∷ 1 ∷ 7 ∷ 0
+    ∷ 0 ∷ 2 ∷ 1 ∷ 0
+    ∷ 0 ∷ 2 ∷ 1 ∷ 0
+    ∷ 0 ∷ 2 ∷ 2 ∷ 0
+    ∷ 0 ∷ 3 ∷ 0 ∷ 0
+    ∷ []
+
+-- "each is 255 where no marked GOAL names that variable, the value where all agree, 254 where two differ"; "Further goal bytes are untouched"
+pub goal-buffers : Holds
+    (goalsInto table begun 0 (buffer 2) gets (250 ∷ 255 ∷ further)
+    ∷ goalsInto (compiled File merging) (freshRecord (compiled File merging) (replicate 5 0)) 0 (buffer 5) gets (254 ∷ 7 ∷ 254 ∷ 0 ∷ 255 ∷ further)
+    ∷ [])
+unfolding offer
+goal-buffers = refl
+
+-- Whether a record is allowed. Of the first program, at the last time 10: by its estimate, by its clocks' flags and starts, by its phase and marks
+abbrev estimated : List ℕ → Bool
+estimated est = allowed table (recordBytes 0 10 est (0 ∷ 0 ∷ []) (0 ∷ 0 ∷ []) (1 ∷ 1 ∷ 1 ∷ []))
+
+abbrev clocked : List ℕ → List ℕ → Bool
+clocked flags starts = allowed table (recordBytes 0 10 (0 ∷ 0 ∷ []) flags starts (1 ∷ 1 ∷ 1 ∷ []))
+
+abbrev phased : ℕ → List ℕ → Bool
+phased phase marks = allowed table (recordBytes phase 10 (0 ∷ 0 ∷ []) (0 ∷ 0 ∷ []) (0 ∷ 0 ∷ []) marks)
+
+-- "phase, started flags and marks hold only the values just named; entries beyond V, K and N are 0; estimate values are at most 250; an unstarted
+-- clock's time is 0 and a started one's not after the last time"; "or under 317 bytes"
+pub allowed-fields : Holds
+    (estimated (250 ∷ 250 ∷ []) gets true
+    ∷ estimated (251 ∷ 0 ∷ []) gets false
+    ∷ estimated (0 ∷ 251 ∷ []) gets false
+    ∷ estimated (0 ∷ 0 ∷ 1 ∷ []) gets false
+    ∷ estimated (replicate 31 0 ++ (1 ∷ [])) gets false
+    ∷ clocked (0 ∷ 0 ∷ []) (0 ∷ 0 ∷ []) gets true
+    ∷ clocked (0 ∷ 0 ∷ []) (0 ∷ 1 ∷ []) gets false
+    ∷ clocked (1 ∷ 1 ∷ []) (0 ∷ 10 ∷ []) gets true
+    ∷ clocked (1 ∷ 1 ∷ []) (0 ∷ 11 ∷ []) gets false
+    ∷ clocked (1 ∷ 2 ∷ []) (0 ∷ 0 ∷ []) gets false
+    ∷ clocked (0 ∷ 0 ∷ 1 ∷ []) [] gets false
+    ∷ clocked (replicate 15 0 ++ (1 ∷ [])) [] gets false
+    ∷ clocked [] (0 ∷ 0 ∷ 1 ∷ []) gets false
+    ∷ clocked [] (replicate 15 0 ++ (0x01000000 ∷ [])) gets false
+    ∷ phased 0 (1 ∷ 1 ∷ 1 ∷ []) gets true
+    ∷ phased 1 (1 ∷ 1 ∷ 1 ∷ []) gets true
+    ∷ phased 2 [] gets true
+    ∷ phased 3 [] gets false
+    ∷ phased 3 (1 ∷ 1 ∷ 1 ∷ []) gets false
+    ∷ phased 0 (1 ∷ 1 ∷ 2 ∷ []) gets false
+    ∷ phased 0 (1 ∷ 1 ∷ 1 ∷ 1 ∷ []) gets false
+    ∷ phased 0 (1 ∷ 1 ∷ 1 ∷ replicate 196 0 ++ (1 ∷ [])) gets false
+    ∷ allowed table begun gets true
+    ∷ allowed table (take 317 begun) gets true
+    ∷ allowed table (take 316 begun) gets false
+    ∷ [])
+unfolding allowed
+allowed-fields = refl
+
+-- Of the second program: its marks, those of its SEQ, MAINTAIN, CHOICE and REPEAT each with those of its children
+abbrev marked : ℕ → ℕ → List ℕ → List ℕ → List ℕ → List ℕ → Bool
+marked phase root seq maintain choice repeat = allowed everyTable (recordBytes phase 0 (0 ∷ []) [] [] (root ∷ seq ++ (maintain ++ (choice ++ repeat))))
+
+-- "in phase 2 no mark is set, otherwise the root is marked; nothing is marked inside an unmarked part; a marked SEQ or REPEAT has exactly one marked
+-- child, PAR at least one, CHOICE at most one; MAINTAIN's child is marked, or in phase 1 may be unmarked"
+pub allowed-marks : Holds
+    (marked 0 1 (1 ∷ 1 ∷ 0 ∷ []) (1 ∷ 1 ∷ []) (1 ∷ 0 ∷ 0 ∷ []) (1 ∷ 1 ∷ []) gets true
+    ∷ marked 2 1 (1 ∷ 1 ∷ 0 ∷ []) (1 ∷ 1 ∷ []) (1 ∷ 0 ∷ 0 ∷ []) (1 ∷ 1 ∷ []) gets false
+    ∷ marked 2 0 (0 ∷ 0 ∷ 0 ∷ []) (0 ∷ 0 ∷ []) (0 ∷ 0 ∷ 0 ∷ []) (0 ∷ 0 ∷ []) gets true
+    ∷ marked 0 0 (0 ∷ 0 ∷ 0 ∷ []) (0 ∷ 0 ∷ []) (0 ∷ 0 ∷ 0 ∷ []) (0 ∷ 0 ∷ []) gets false
+    ∷ marked 1 0 (0 ∷ 0 ∷ 0 ∷ []) (0 ∷ 0 ∷ []) (0 ∷ 0 ∷ 0 ∷ []) (0 ∷ 0 ∷ []) gets false
+    ∷ marked 0 0 (0 ∷ 0 ∷ 0 ∷ []) (0 ∷ 0 ∷ []) (0 ∷ 0 ∷ 0 ∷ []) (1 ∷ 1 ∷ []) gets false
+    ∷ marked 0 1 (0 ∷ 0 ∷ 0 ∷ []) (0 ∷ 0 ∷ []) (0 ∷ 0 ∷ 0 ∷ []) (0 ∷ 0 ∷ []) gets false
+    ∷ marked 0 1 (1 ∷ 0 ∷ 1 ∷ []) (0 ∷ 0 ∷ []) (0 ∷ 0 ∷ 0 ∷ []) (0 ∷ 0 ∷ []) gets true
+    ∷ marked 0 1 (1 ∷ 0 ∷ 0 ∷ []) (0 ∷ 0 ∷ []) (0 ∷ 0 ∷ 0 ∷ []) (0 ∷ 0 ∷ []) gets false
+    ∷ marked 0 1 (1 ∷ 1 ∷ 1 ∷ []) (0 ∷ 0 ∷ []) (0 ∷ 0 ∷ 0 ∷ []) (0 ∷ 0 ∷ []) gets false
+    ∷ marked 0 1 (0 ∷ 1 ∷ 0 ∷ []) (1 ∷ 1 ∷ []) (0 ∷ 0 ∷ 0 ∷ []) (0 ∷ 0 ∷ []) gets false
+    ∷ marked 0 1 (0 ∷ 0 ∷ 0 ∷ []) (1 ∷ 0 ∷ []) (0 ∷ 0 ∷ 0 ∷ []) (0 ∷ 0 ∷ []) gets false
+    ∷ marked 1 1 (0 ∷ 0 ∷ 0 ∷ []) (1 ∷ 0 ∷ []) (0 ∷ 0 ∷ 0 ∷ []) (0 ∷ 0 ∷ []) gets true
+    ∷ marked 0 1 (0 ∷ 0 ∷ 0 ∷ []) (0 ∷ 0 ∷ []) (1 ∷ 1 ∷ 0 ∷ []) (0 ∷ 0 ∷ []) gets true
+    ∷ marked 0 1 (0 ∷ 0 ∷ 0 ∷ []) (0 ∷ 0 ∷ []) (1 ∷ 0 ∷ 1 ∷ []) (0 ∷ 0 ∷ []) gets true
+    ∷ marked 0 1 (0 ∷ 0 ∷ 0 ∷ []) (0 ∷ 0 ∷ []) (1 ∷ 1 ∷ 1 ∷ []) (0 ∷ 0 ∷ []) gets false
+    ∷ marked 0 1 (0 ∷ 0 ∷ 0 ∷ []) (0 ∷ 0 ∷ []) (0 ∷ 0 ∷ 0 ∷ []) (1 ∷ 0 ∷ []) gets false
+    ∷ marked 0 1 (0 ∷ 0 ∷ 0 ∷ []) (0 ∷ 0 ∷ []) (0 ∷ 0 ∷ 0 ∷ []) (1 ∷ 1 ∷ []) gets true
+    ∷ [])
+unfolding allowed
+allowed-marks = refl
