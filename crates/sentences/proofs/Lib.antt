@@ -8,3 +8,4 @@ pub mod ClockStarts
 pub mod Followers
 pub mod Settlings
 pub mod AfterSettling
+pub mod TableRows

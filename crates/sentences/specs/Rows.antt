@@ -35,8 +35,8 @@ pub record Following (t : List ℕ) (p s : ℕ) : Type 0 where
   pub none-between : (r : ℕ) → p < r → r < s → parentAt t r ≢ parentAt t p
 
 -- how many children part p has: the parts of which it is the parent
-unfoldable pub childrenOf : List ℕ → ℕ → ℕ
-childrenOf t p = sum (tabulate (λ q. flag (eqb (parentAt t q) p)) 0 (parts t))
+unfoldable pub numberOfChildren : List ℕ → ℕ → ℕ
+numberOfChildren t p = sum (tabulate (λ q. flag (eqb (parentAt t q) p)) 0 (parts t))
 
 -- "The three sizes, then one 8-byte row per part, same order: kind; end; parent; next; the operand"
 pub record LaidDown (t : List ℕ) : Type 0 where
@@ -59,4 +59,4 @@ pub record LaidDown (t : List ℕ) : Type 0 where
   pub next-itself : (p : ℕ) → p < parts t → (nextAt t p ≡ p) ↔ ChildOfKind t REPEAT p
   pub next-none : (p : ℕ) → p < parts t → (nextAt t p ≡ noPart) ↔ ((ChildOfKind t REPEAT p → ⊥) × ((s : ℕ) → ChildOfKind t SEQ p → Following t p s → ⊥))
   -- "Children": SEQ and PAR as many as their count, MAINTAIN and REPEAT one, CHOICE two, the leaves none
-  pub children-are : (p : ℕ) → p < parts t → childrenOf t p ≡ arity (kindAt t p) (operandOf t p)
+  pub children-are : (p : ℕ) → p < parts t → numberOfChildren t p ≡ arity (kindAt t p) (operandOf t p)
