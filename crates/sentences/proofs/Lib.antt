@@ -9,3 +9,4 @@ pub mod Followers
 pub mod Settlings
 pub mod AfterSettling
 pub mod TableRows
+pub mod Conditions
