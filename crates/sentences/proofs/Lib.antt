@@ -10,3 +10,4 @@ pub mod Settlings
 pub mod AfterSettling
 pub mod TableRows
 pub mod Conditions
+pub mod RoundTrip
