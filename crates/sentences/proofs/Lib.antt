@@ -11,3 +11,4 @@ pub mod AfterSettling
 pub mod TableRows
 pub mod Conditions
 pub mod RoundTrip
+pub mod Instead
