@@ -33,7 +33,7 @@ abbrev roomFor : ℕ → ℕ → List (ℕ × Bool)
 roomFor n room = (bufferTooShort, leb n room) ∷ []
 
 -- compiling is not refused exactly where the file is accepted and there is room for the table
-compile-accepts : (f : List ℕ) (room : ℕ) → (compileRefusal f room ≡ 0) ↔ ((programRefusal File f ≡ 0) × (lengthOf Table (parts f) ≤ room))
+pub compile-accepts : (f : List ℕ) (room : ℕ) → (compileRefusal f room ≡ 0) ↔ ((programRefusal File f ≡ 0) × (lengthOf Table (parts f) ≤ room))
 unfolding compileRefusal programRefusal
 compile-accepts f room = (
   λ h.
@@ -43,7 +43,7 @@ compile-accepts f room = (
 )
 
 -- and decompiling exactly where the bytes are a table and there is room for the file
-decompile-accepts : (t : List ℕ) (room : ℕ) → (decompileRefusal t room ≡ 0) ↔ ((isTable t ≡ true) × (lengthOf File (parts t) ≤ room))
+pub decompile-accepts : (t : List ℕ) (room : ℕ) → (decompileRefusal t room ≡ 0) ↔ ((isTable t ≡ true) × (lengthOf File (parts t) ≤ room))
 unfolding decompileRefusal
 decompile-accepts t room = (
   λ h.
