@@ -14,14 +14,10 @@ use Rattle.meaning.specs.Sizes.{noPart, headerLength, rowLength}
 use Rattle.meaning.specs.Kinds.{Kind}
 use Rattle.meaning.specs.Tree.{Part, children, size}
 use Rattle.meaning.specs.Program.{parts, variables, clocks}
-use Rattle.meaning.specs.Table.{endAt, parentAt, nextAt, insideOf, isTable}
+use Rattle.meaning.specs.Table.{endAt, parentAt, nextAt, Inside, insideOf, isTable}
 use Rattle.meaning.proofs.Trees.{All, part-ind, size-law, size-inner}
 use Rattle.meaning.proofs.Tables.{table-held, inside as within, root-end}
 use Rattle.meaning.proofs.Lies.{Lies, LieIn, own-row, children-lie, first-lies, others-lie, root-lies}
-
--- part p stands inside part q
-abbrev pub Inside : List ℕ → ℕ → ℕ → Type 0
-Inside t q p = (q < p) × (p < endAt t q)
 
 -- a part lies at number i
 pub record At (t : List ℕ) (i : ℕ) : Type 0 where

@@ -1,5 +1,5 @@
 -- Location table: the table of a program, the file that a table holds, and which byte lists are a table (refusal 9).
-use Prim.Native.Nat.{ℕ, suc, _+_, _*_, _-_}
+use Prim.Native.Nat.{ℕ, suc, _+_, _*_, _-_, _<_}
 use mathlib.Core.Bool.{Bool, cond, _&&_}
 use mathlib.Core.Option.{Option, none, some}
 use mathlib.Core.List.{List, [], _∷_, _++_, map}
@@ -93,6 +93,10 @@ kindAt t p = kindOf (entryAt Table t p .kind)
 
 abbrev pub operandOf : List ℕ → ℕ → Operand
 operandOf t p = entryAt Table t p .operand
+
+-- part p stands inside part q
+abbrev pub Inside : List ℕ → ℕ → ℕ → Type 0
+Inside t q p = (q < p) × (p < endAt t q)
 
 -- how many parts stand inside part p
 abbrev pub insideOf : List ℕ → ℕ → ℕ

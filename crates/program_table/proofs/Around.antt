@@ -11,10 +11,10 @@ use borrow.Author.Tests.{lt-ltb, le-ltb}
 use Rattle.base.specs.Lists.{sum, nonempty}
 use Rattle.meaning.specs.Tree.{Part, size}
 use Rattle.meaning.specs.Program.{parts}
-use Rattle.meaning.specs.Table.{nextOf, block, endAt, parentAt, nextAt, kindAt, isTable}
+use Rattle.meaning.specs.Table.{nextOf, block, endAt, parentAt, nextAt, kindAt, Inside, isTable}
 use Rattle.meaning.proofs.Trees.{size-law}
 use Rattle.meaning.proofs.Lies.{own-row, first-lies}
-use Rattle.meaning.proofs.Nesting.{Inside, Found, found, inside-root, parent-inside, inside-parent}
+use Rattle.meaning.proofs.Nesting.{Found, found, inside-root, parent-inside, inside-parent}
 
 module _ (t : List ℕ) (table : isTable t ≡ true) (p : ℕ) (first : 0 < p) (there : p < parts t) where
   stands : Inside t (parentAt t p) p

@@ -18,11 +18,10 @@ use Rattle.meaning.specs.Sizes.{noPart, headerLength, rowLength, bytesAt, kindL
 use Rattle.meaning.specs.Kinds.{kindOf}
 use Rattle.meaning.specs.Tree.{Part}
 use Rattle.meaning.specs.Program.{parts, variables, clocks, entryAt, entries}
-use Rattle.meaning.specs.Table.{nextOf, compiled, tableOf, endAt, parentAt, nextAt, kindAt, isTable}
+use Rattle.meaning.specs.Table.{nextOf, compiled, tableOf, endAt, parentAt, nextAt, kindAt, Inside, isTable}
 use Rattle.meaning.proofs.Files.{Holds, accepted}
 use Rattle.meaning.proofs.Tables.{compiled-is, tree-table, table-holds, table-accepted}
 use Rattle.meaning.proofs.Lies.{Lies, own-row, root-lies}
-use Rattle.meaning.proofs.Nesting.{Inside}
 use Rattle.program_part.specs.Readable.{Readable}
 use Rattle.program_walk.proofs.Entries.{entries-at}
 use Rattle.program_table.specs.declared.checking.Links.{Links}

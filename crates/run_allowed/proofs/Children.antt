@@ -9,10 +9,10 @@ use mathlib.Core.List.{List, [], _∷_}
 use lib.ListN.{getD, take, drop}
 use borrow.Author.Tests.{ne-eqb}
 use Rattle.base.specs.Lists.{any, bytesAt}
-use Rattle.meaning.specs.Table.{endAt, parentAt, insideOf, isTable}
+use Rattle.meaning.specs.Table.{endAt, parentAt, Inside, insideOf, isTable}
 use Rattle.meaning.specs.Record.{isMark, markedChildren, partsAllowed}
 use Rattle.meaning.proofs.Tables.{inside}
-use Rattle.meaning.proofs.Nesting.{Inside, Closed, lower, nested, parent-inside, inside-parent, inner-part, closed-rest}
+use Rattle.meaning.proofs.Nesting.{Closed, lower, nested, parent-inside, inside-parent, inner-part, closed-rest}
 
 module _ (t : List ℕ) (table : isTable t ≡ true) (p : ℕ) where
   -- the part after a part that has something inside is its child

@@ -15,10 +15,10 @@ use Rattle.meaning.specs.declared.Entry.{Entry}
 use Rattle.meaning.specs.declared.Form.the-variants.{Table}
 use Rattle.meaning.specs.Kinds.{kindOf}
 use Rattle.meaning.specs.Program.{parts, entryAt}
-use Rattle.meaning.specs.Table.{endAt, parentAt, insideOf, isTable}
+use Rattle.meaning.specs.Table.{endAt, parentAt, Inside, insideOf, isTable}
 use Rattle.meaning.specs.Record.{marksPlace, recordLength, phaseOf, marksIn, finished, isMark, markedChildren, childrenAllowed, partAllowed, partsAllowed, rootAllowed}
 use Rattle.meaning.proofs.Tables.{inside, root-there}
-use Rattle.meaning.proofs.Nesting.{Inside, nested, inner-part, closed-inside}
+use Rattle.meaning.proofs.Nesting.{nested, inner-part, closed-inside}
 use Rattle.program_part.specs.Readable.{Readable}
 use Rattle.program_part.proofs.Places.{row-readable}
 use Rattle.run_record.proofs.Marks.{mark-inside, marks-inside}

@@ -22,13 +22,14 @@ use Rattle.meaning.specs.Record.{marksPlace, recordLength, phaseOf, lastTime, m
 use Rattle.meaning.specs.declared.Transition.{Transition}
 use Rattle.meaning.specs.declared.Transition.the-variants.{Stays, Ends, First, Second}
 use Rattle.meaning.specs.Cycle.{initialMarks, initialised, settledFrom, situation, settledMarks}
+use Rattle.sentences.specs.Marks.{Marked}
 use Rattle.meaning.proofs.Decisions.{decides, decides-kind}
 use Rattle.meaning.proofs.Tables.{Later, LinksInside, inside}
 use Rattle.meaning.proofs.Records.{length-initial, length-settled}
 use Rattle.meaning.proofs.Lies.{Lies, own-kind, own-inside}
 use Rattle.meaning.proofs.Nesting.{lower, at, root-next, inside-root, nested}
 use Rattle.sentences.proofs.Followers.{Followed, Branches, next-nested, choice-branches}
-use Rattle.sentences.proofs.Settlings.{Marked, later, insideBefore, insideAfter, transitionAt, EndsAt, TakesFirst, TakesSecond, marked-length, composite-ends, deciding-stays, unmarked-unjudged, end-no-next, end-next, decides-first, decides-second, stays, kept-own}
+use Rattle.sentences.proofs.Settlings.{later, insideBefore, insideAfter, transitionAt, EndsAt, TakesFirst, TakesSecond, marked-length, composite-ends, deciding-stays, unmarked-unjudged, end-no-next, end-next, decides-first, decides-second, stays, kept-own}
 
 -- a part that was marked and does not end
 abbrev pub StaysMarked : List ℕ → Situation → List ℕ → ℕ → Type 0

@@ -9,11 +9,11 @@ use mathlib.Core.List.{List, [], _∷_}
 use lib.Dec.{ltb}
 use lib.ListN.{getD}
 use borrow.Author.Tests.{ltb-true, ltb-false}
-use Rattle.meaning.specs.Table.{endAt, insideOf, isTable}
+use Rattle.meaning.specs.Table.{endAt, Inside, insideOf, isTable}
 use Rattle.meaning.specs.Conditions.{Situation}
 use Rattle.meaning.specs.Record.{isMark}
 use Rattle.meaning.specs.Cycle.{breaks, checkedFrom}
-use Rattle.meaning.proofs.Nesting.{Inside, Closed, closed-inside, closed-none, closed-rest}
+use Rattle.meaning.proofs.Nesting.{Closed, closed-inside, closed-none, closed-rest}
 
 module _ (t : List ℕ) (sit : Situation) where
   -- a mark is lost or stays as it was

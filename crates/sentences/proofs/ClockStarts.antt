@@ -6,7 +6,7 @@ use mathlib.Core.Logic.{_↔_}
 use mathlib.Core.Bool.{true, false, or-true, false≢true}
 use mathlib.Core.List.{List}
 use lib.Dec.{eqb}
-use lib.ListN.{length, getD}
+use lib.ListN.{getD}
 use borrow.Author.Tests.{eqb-true, eq-eqb}
 use Rattle.base.specs.Lists.{any}
 use Rattle.base.proofs.Lists.{and-left, and-right, both-true, getD-tabulate}
@@ -17,11 +17,8 @@ use Rattle.meaning.specs.Program.{clocks, entryAt}
 use Rattle.meaning.specs.Table.{operandOf}
 use Rattle.meaning.specs.Record.{isMark}
 use Rattle.meaning.specs.Cycle.{isKind, isLeaf, leavesFrom, startsClock, clockFlags, clockStarts}
+use Rattle.sentences.specs.Marks.{StartAt}
 use Rattle.sentences.proofs.LeavesAt.{leaf-marked}
-
--- part p is a marked START of clock c
-abbrev pub StartAt : List ℕ → List ℕ → ℕ → ℕ → Type 0
-StartAt t ms c p = (p < length ms) × (isMark (getD ms p 0) ≡ true) × (isKind START (entryAt Table t p) ≡ true) × (operandOf t p .b1 ≡ c)
 
 start-leaf : (c : ℕ) (e : Entry) → startsClock c e ≡ true → isLeaf e ≡ true
 start-leaf c e h = rw (and-left (isKind START e) (eqb (e .operand .b1) c) h, or-true)

@@ -9,10 +9,10 @@ use Rattle.meaning.specs.Sizes.{noPart}
 use Rattle.meaning.specs.Kinds.{Kind, UNKNOWN, GOAL, START, WAIT, SEQ, PAR, MAINTAIN, CHOICE, REPEAT, numberOf}
 use Rattle.meaning.specs.Tree.{Part, goal, start, wait, seq, par, maintain, choice, repeat, kind, size}
 use Rattle.meaning.specs.Program.{parts}
-use Rattle.meaning.specs.Table.{nextOf, block, endAt, parentAt, nextAt, kindAt, isTable}
+use Rattle.meaning.specs.Table.{nextOf, block, endAt, parentAt, nextAt, kindAt, Inside, isTable}
 use Rattle.meaning.proofs.Trees.{size-inner}
 use Rattle.meaning.proofs.Lies.{Lies, LieIn, own-row, own-kind, children-lie, first-lies, others-lie}
-use Rattle.meaning.proofs.Nesting.{Inside, Found, at, found}
+use Rattle.meaning.proofs.Nesting.{Found, at, found}
 
 -- a next that is neither none nor the part itself is a later child's of a SEQ
 later-next : (k : Kind) (m e : ℕ) (b : Bool) → m < nextOf k m e b → (nextOf k m e b ≡ noPart → ⊥) → (k ≡ SEQ) × (b ≡ true) × (nextOf k m e b ≡ e)

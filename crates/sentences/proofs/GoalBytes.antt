@@ -17,25 +17,12 @@ use Rattle.meaning.specs.Sizes.{maxValue}
 use Rattle.meaning.specs.Kinds.{GOAL, value}
 use Rattle.meaning.specs.Program.{parts, variables, clocks, entryAt}
 use Rattle.meaning.specs.Table.{operandOf, isTable}
-use Rattle.meaning.specs.Record.{marksPlace, isMark, estimateIn, marksIn}
+use Rattle.meaning.specs.Record.{marksPlace, estimateIn, marksIn}
 use Rattle.meaning.specs.Cycle.{isKind, isLeaf, leavesFrom, noGoal, contested, valuesFor, goalByte, situation, checkedMarks, offeredGoals}
+use Rattle.sentences.specs.Marks.{GoalAt, NoGoalAt, GoalsAgree, GoalsDiffer}
 use Rattle.meaning.proofs.Entries.{entry-allowed, goal-fits, byte-at}
 use Rattle.meaning.proofs.Records.{length-checked}
 use Rattle.sentences.proofs.LeavesAt.{leaf-marked}
-
--- part p is a marked GOAL that names variable v
-abbrev pub GoalAt : List ℕ → List ℕ → ℕ → ℕ → Type 0
-GoalAt t ms v p = (p < length ms) × (isMark (getD ms p 0) ≡ true) × (isKind GOAL (entryAt Table t p) ≡ true) × (operandOf t p .b1 ≡ v)
-
--- "where no marked GOAL names that variable", "where all agree" on value x, "where two differ"
-abbrev pub NoGoalAt : List ℕ → List ℕ → ℕ → Type 0
-NoGoalAt t ms v = (p : ℕ) → GoalAt t ms v p → ⊥
-
-abbrev pub GoalsAgree : List ℕ → List ℕ → ℕ → ℕ → Type 0
-GoalsAgree t ms v x = ((p : ℕ) × GoalAt t ms v p) × ((p : ℕ) → GoalAt t ms v p → value (operandOf t p) ≡ x)
-
-abbrev pub GoalsDiffer : List ℕ → List ℕ → ℕ → Type 0
-GoalsDiffer t ms v = (p : ℕ) × (q : ℕ) × GoalAt t ms v p × GoalAt t ms v q × (value (operandOf t p) ≡ value (operandOf t q) → ⊥)
 
 -- a goal byte b says one of the three
 abbrev Says : ℕ → List ℕ → List ℕ → ℕ → Type 0

@@ -10,13 +10,13 @@ use lib.ListN.{length, getD, drop, replicate}
 use lib.Seq.{drop-append-seam}
 use Rattle.base.specs.Lists.{flag}
 use Rattle.meaning.specs.Program.{parts, clocks}
-use Rattle.meaning.specs.Table.{endAt, parentAt, insideOf, isTable}
+use Rattle.meaning.specs.Table.{endAt, parentAt, Inside, insideOf, isTable}
 use Rattle.meaning.specs.Record.{recordLength, waiting, isMark, recordBytes}
 use Rattle.meaning.specs.Cycle.{begins, initialMarksFrom, initialMarks, beginRefusal, begunInto}
 use Rattle.meaning.proofs.Tables.{inside as within}
 use Rattle.meaning.proofs.Records.{Fits, length-record, phase-read, time-read, estimate-read, started-read, starts-read, marks-read, length-initial, length-root, begin-tests, begun-fits, begun-bytes}
-use Rattle.sentences.proofs.RecordFields.{Fields}
-use Rattle.meaning.proofs.Nesting.{Inside, parent-inside, inside-parent, Closed, closed-inside, closed-none, closed-rest}
+use Rattle.sentences.specs.Fields.{Fields}
+use Rattle.meaning.proofs.Nesting.{parent-inside, inside-parent, Closed, closed-inside, closed-none, closed-rest}
 
 -- part q's marks once it is initialised, by the numbers of the parts
 module _ (t : List ℕ) (table : isTable t ≡ true) (q : ℕ) (marked : ℕ → ℕ) where

@@ -14,10 +14,7 @@ use Rattle.meaning.specs.declared.Form.the-variants.{Table}
 use Rattle.meaning.specs.Program.{entryAt}
 use Rattle.meaning.specs.Record.{isMark}
 use Rattle.meaning.specs.Cycle.{isLeaf, leavesFrom}
-
--- part p is marked, and its entry passes a test
-abbrev pub MarkedAt : (Entry → Bool) → List ℕ → List ℕ → ℕ → Type 0
-MarkedAt f t ms p = (p < length ms) × (isMark (getD ms p 0) ≡ true) × (f (entryAt Table t p) ≡ true)
+use Rattle.sentences.specs.Marks.{MarkedAt}
 
 -- a test that only leaves pass
 module _ (f : Entry → Bool) (leaf : (e : Entry) → f e ≡ true → isLeaf e ≡ true) where

@@ -14,21 +14,12 @@ use Rattle.base.proofs.Stores.{length-bytes, getD-bytes, drop-bytes, bytes-sets
 use Rattle.meaning.specs.Sizes.{maxParts, timeWidth, littleEndian, littleEndianValue, timeLimit, byteValues}
 use Rattle.meaning.specs.Program.{parts, variables, clocks}
 use Rattle.meaning.specs.Table.{isTable}
-use Rattle.meaning.specs.Record.{timePlace, estimatePlace, startedPlace, startsPlace, marksPlace, recordLength, timeAt, phaseOf, lastTime, estimateIn, startedIn, startsIn, marksIn, offered, waiting, finished}
+use Rattle.meaning.specs.Record.{timePlace, estimatePlace, startedPlace, startsPlace, marksPlace, recordLength, timeAt, lastTime, estimateIn, startedIn, startsIn, marksIn, offered, waiting, finished}
 use Rattle.meaning.specs.Cycle.{checkedMarks, offeredRecord, offerRefusal, offeredInto, settledMarks, settledRecord, settleRefusal, settledInto, rootEnded, startingLeaves, clockFlags, clockStarts}
+use Rattle.sentences.specs.Fields.{Fields}
 use Rattle.meaning.proofs.Tables.{table-held}
 use Rattle.meaning.proofs.Records.{time-back, times-back, length-times, length-checked, length-settled, starts-below, allowed-long, estimate-fits}
 use Rattle.meaning.proofs.Refusals.{offer-tests, settle-tests, settled-phase}
-
--- the fields of a record, and the bytes after it
-pub record Fields (t r : List ℕ) (phase time : ℕ) (est started starts marks more : List ℕ) : Type 0 where
-  pub phase-is : phaseOf r ≡ phase
-  pub time-is : lastTime r ≡ time
-  pub estimate-is : estimateIn t r ≡ est
-  pub started-is : startedIn t r ≡ started
-  pub starts-are : startsIn t r ≡ starts
-  pub marks-are : marksIn t r ≡ marks
-  pub more-is : drop recordLength r ≡ more
 
 -- Where the fields stand, one after the other
 abbrev fields : List ℕ → List (ℕ × ℕ)

@@ -19,14 +19,11 @@ use Rattle.meaning.specs.Record.{isMark}
 use Rattle.meaning.specs.declared.Transition.{Transition}
 use Rattle.meaning.specs.declared.Transition.the-variants.{Stays, Ends, First, Second}
 use Rattle.meaning.specs.Cycle.{endsIf, transition, initialMarks, applied, settledPart, settledFrom, rootEnded}
+use Rattle.sentences.specs.Marks.{Marked}
 use Rattle.meaning.proofs.Decisions.{decides, decides-kind}
 use Rattle.meaning.proofs.Tables.{root-there}
 use Rattle.meaning.proofs.Nesting.{lower, root-next}
 use Rattle.sentences.proofs.Followers.{choice-branches}
-
--- For marks ms before a settling: part p is marked
-abbrev pub Marked : List ℕ → ℕ → Type 0
-Marked ms p = isMark (getD ms p 0) ≡ true
 
 -- "after this": the marks of the parts after part p once these are settled
 abbrev pub later : List ℕ → Situation → List ℕ → ℕ → List ℕ

@@ -18,13 +18,13 @@ use Rattle.meaning.specs.Sizes.{maxParts, noPart, headerLength}
 use Rattle.meaning.specs.Kinds.{Kind, UNKNOWN, GOAL, START, WAIT, SEQ, PAR, MAINTAIN, CHOICE, REPEAT, arity}
 use Rattle.meaning.specs.Tree.{Part, kind, children, operand, size}
 use Rattle.meaning.specs.Program.{parts, entryAt, entries}
-use Rattle.meaning.specs.Table.{nextOf, block, endAt, parentAt, nextAt, kindAt, operandOf, fileIn, isTable}
+use Rattle.meaning.specs.Table.{nextOf, block, endAt, parentAt, nextAt, kindAt, operandOf, Inside, fileIn, isTable}
 use Rattle.meaning.proofs.Trees.{inner, size-law, size-inner}
 use Rattle.meaning.proofs.Parsing.{arity-children}
 use Rattle.meaning.proofs.Files.{length-entries, file-entries}
 use Rattle.meaning.proofs.Tables.{table-held, inside, root-there, Later}
 use Rattle.meaning.proofs.Lies.{LieIn, own-row, own-kind, children-lie, first-lies, others-lie}
-use Rattle.meaning.proofs.Nesting.{Inside, At, Found, at, found, inside-root, root-next, nested, parent-inside, inside-parent, outer-part, inner-part, lower}
+use Rattle.meaning.proofs.Nesting.{At, Found, at, found, inside-root, root-next, nested, parent-inside, inside-parent, outer-part, inner-part, lower}
 use Rattle.sentences.specs.Rows.{ChildOf, Descendant, child, further, ChildOfKind, Following, numberOfChildren, LaidDown}
 use Rattle.sentences.proofs.Followers.{next-nested}
 

@@ -1,0 +1,39 @@
+-- What is marked, by part number, in a list of marks.
+use Prim.Native.Nat.{ℕ, _<_}
+use mathlib.Core.Path.{_≡_}
+use mathlib.Core.Bool.{Bool, true}
+use mathlib.Core.List.{List}
+use lib.ListN.{length, getD}
+use Rattle.meaning.specs.declared.Entry.{Entry}
+use Rattle.meaning.specs.declared.Form.the-variants.{Table}
+use Rattle.meaning.specs.Kinds.{GOAL, START, value}
+use Rattle.meaning.specs.Program.{entryAt}
+use Rattle.meaning.specs.Table.{operandOf}
+use Rattle.meaning.specs.Record.{isMark}
+use Rattle.meaning.specs.Cycle.{isKind}
+
+-- part p is marked
+abbrev pub Marked : List ℕ → ℕ → Type 0
+Marked ms p = isMark (getD ms p 0) ≡ true
+
+-- part p is marked, and its entry passes a test
+abbrev pub MarkedAt : (Entry → Bool) → List ℕ → List ℕ → ℕ → Type 0
+MarkedAt f t ms p = (p < length ms) × (isMark (getD ms p 0) ≡ true) × (f (entryAt Table t p) ≡ true)
+
+-- part p is a marked GOAL that names variable v
+abbrev pub GoalAt : List ℕ → List ℕ → ℕ → ℕ → Type 0
+GoalAt t ms v p = (p < length ms) × (isMark (getD ms p 0) ≡ true) × (isKind GOAL (entryAt Table t p) ≡ true) × (operandOf t p .b1 ≡ v)
+
+-- "where no marked GOAL names that variable", "where all agree" on value x, "where two differ"
+abbrev pub NoGoalAt : List ℕ → List ℕ → ℕ → Type 0
+NoGoalAt t ms v = (p : ℕ) → GoalAt t ms v p → ⊥
+
+abbrev pub GoalsAgree : List ℕ → List ℕ → ℕ → ℕ → Type 0
+GoalsAgree t ms v x = ((p : ℕ) × GoalAt t ms v p) × ((p : ℕ) → GoalAt t ms v p → value (operandOf t p) ≡ x)
+
+abbrev pub GoalsDiffer : List ℕ → List ℕ → ℕ → Type 0
+GoalsDiffer t ms v = (p : ℕ) × (q : ℕ) × GoalAt t ms v p × GoalAt t ms v q × (value (operandOf t p) ≡ value (operandOf t q) → ⊥)
+
+-- part p is a marked START of clock c
+abbrev pub StartAt : List ℕ → List ℕ → ℕ → ℕ → Type 0
+StartAt t ms c p = (p < length ms) × (isMark (getD ms p 0) ≡ true) × (isKind START (entryAt Table t p) ≡ true) × (operandOf t p .b1 ≡ c)
