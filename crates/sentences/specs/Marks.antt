@@ -1,20 +1,28 @@
 -- What is marked, by part number, in a list of marks.
-use Prim.Native.Nat.{ℕ, _<_}
+use Prim.Native.Nat.{ℕ, _≤_, _<_}
 use mathlib.Core.Path.{_≡_}
 use mathlib.Core.Bool.{Bool, true}
 use mathlib.Core.List.{List}
 use lib.ListN.{length, getD}
 use Rattle.meaning.specs.declared.Entry.{Entry}
 use Rattle.meaning.specs.declared.Form.the-variants.{Table}
-use Rattle.meaning.specs.Kinds.{GOAL, START, value}
+use Rattle.meaning.specs.Kinds.{GOAL, START, CHOICE, value}
 use Rattle.meaning.specs.Program.{entryAt}
-use Rattle.meaning.specs.Table.{operandOf}
+use Rattle.meaning.specs.Table.{kindAt, operandOf, Inside}
 use Rattle.meaning.specs.Record.{isMark}
 use Rattle.meaning.specs.Cycle.{isKind}
 
 -- part p is marked
 abbrev pub Marked : List ℕ → ℕ → Type 0
 Marked ms p = isMark (getD ms p 0) ≡ true
+
+-- "bytes of 0 or 1"
+abbrev pub Flags : List ℕ → Type 0
+Flags ms = (p : ℕ) → getD ms p 0 ≤ 1
+
+-- "a marked CHOICE with nothing marked inside is deciding"
+abbrev pub Deciding : List ℕ → List ℕ → ℕ → Type 0
+Deciding t ms p = Marked ms p × (kindAt t p ≡ CHOICE) × ((q : ℕ) → Inside t p q → Marked ms q → ⊥)
 
 -- part p is marked, and its entry passes a test
 abbrev pub MarkedAt : (Entry → Bool) → List ℕ → List ℕ → ℕ → Type 0
