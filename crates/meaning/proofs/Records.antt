@@ -323,7 +323,7 @@ pub record Allowed (t : List ℕ) (phase time : ℕ) (est started starts marks :
   pub parts-allowed : partsAllowed t phase 0 marks ≡ true
 
 module _ {t : List ℕ} {time : ℕ} {est started starts marks : List ℕ} (fits : Fits t time est started starts marks) (phase : ℕ) (more : List ℕ) where
-  rest-zero : restZero t (recordBytes phase time est started starts marks ++ more) ≡ true
+  pub rest-zero : restZero t (recordBytes phase time est started starts marks ++ more) ≡ true
   unfolding restZero
   rest-zero =
       let zeros : (n : ℕ) → all isZero (replicate n 0) ≡ true = λ n. all-replicate isZero n 0 refl in

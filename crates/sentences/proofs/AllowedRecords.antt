@@ -343,7 +343,7 @@ module _ (t r : List ℕ) where
       small : (m k n : ℕ) → (all (λ b. leb b m) (bytesAt r k n) ≡ true) ↔ ((i : ℕ) → i < n → getD (bytesAt r k n) i 0 ≤ m)
       small m k n = all-facts (λ b. leb b m) (λ x. x ≤ m) (at-most m) (bytesAt r k n) n (length-bytes r k n)
 
-  rest-right : (restZero t r ≡ true)
+  pub rest-right : (restZero t r ≡ true)
       ↔ (((i : ℕ) → variables t ≤ i → i < maxVariables → getD r (estimatePlace + i) 0 ≡ 0)
       × (((i : ℕ) → clocks t ≤ i → i < maxClocks → getD r (startedPlace + i) 0 ≡ 0)
       × (((i : ℕ) → timeWidth * clocks t ≤ i → i < timeWidth * maxClocks → getD r (startsPlace + i) 0 ≡ 0) × ((i : ℕ) → parts t ≤ i → i < maxParts → getD r (marksPlace + i) 0 ≡ 0))))

@@ -4,11 +4,12 @@ use native.Mathlib.Nat.{add-zero, add-suc, suc-add, sub-self, le-of-suc-le-suc, 
 use native.Mathlib.Omega.{arith}
 use mathlib.Core.Path.{_≡_, refl, sym, ap, subst, _∙_}
 use mathlib.Core.Bool.{Bool, true, false, cond, _&&_, and-true, and-false}
-use mathlib.Core.Logic.{_⊎_, inl, inr}
+use mathlib.Core.Logic.{_↔_, _⊎_, inl, inr}
 use mathlib.Core.List.{List, _++_}
 use lib.ListN.{length, getD, drop, replicate}
 use lib.Seq.{drop-append-seam}
 use Rattle.base.specs.Lists.{flag}
+use Rattle.base.proofs.Lists.{and-left, and-right}
 use Rattle.meaning.specs.Program.{parts, clocks}
 use Rattle.meaning.specs.Table.{endAt, parentAt, Inside, insideOf, isTable}
 use Rattle.meaning.specs.Record.{recordLength, waiting, isMark, recordBytes}
@@ -16,7 +17,8 @@ use Rattle.meaning.specs.Cycle.{begins, initialMarksFrom, initialMarks, beginRe
 use Rattle.meaning.proofs.Tables.{inside as within}
 use Rattle.meaning.proofs.Records.{Fits, length-record, phase-read, time-read, estimate-read, started-read, starts-read, marks-read, length-initial, length-root, begin-tests, begun-fits, begun-bytes}
 use Rattle.sentences.specs.Fields.{Fields}
-use Rattle.meaning.proofs.Nesting.{parent-inside, inside-parent, Closed, closed-inside, closed-none, closed-rest}
+use Rattle.sentences.specs.Stepping.{BegunWith, itself, child}
+use Rattle.meaning.proofs.Nesting.{nested, parent-inside, inside-parent, Closed, closed-inside, closed-none, closed-rest}
 
 -- part q's marks once it is initialised, by the numbers of the parts
 module _ (t : List ℕ) (table : isTable t ≡ true) (q : ℕ) (marked : ℕ → ℕ) where
@@ -116,6 +118,10 @@ module _ (t : List ℕ) (table : isTable t ≡ true) (q : ℕ) (marked : ℕ →
       first-or n p h (rw (o .idle n (omega arith) (omega arith) own (inside-parent t table q n own .0), and-false) m)
       (initialised-from k (suc n) skip (omega arith) (open-skipped n skip o m) (λ j l. rw (suc-add n j, ← add-suc n j) (f (suc j) (omega arith))) p i)
 
+flag-true : (b : Bool) → isMark (flag b) ≡ true → b ≡ true
+flag-true true e = refl
+flag-true false e = e
+
 -- "To initialise is to mark the part"
 pub initialised-itself : (t : List ℕ) (q : ℕ) → getD (initialMarks t q) 0 0 ≡ 1
 unfolding initialMarks
@@ -150,6 +156,54 @@ module _ (t : List ℕ) (table : isTable t ≡ true) (q : ℕ) where
       later j =
           let e : suc q + j - q ≡ suc j = omega arith in
           rw e
+
+  -- a part that is marked where part q is initialised is q, or stands inside it
+  pub begun-within : q < endAt t q → {p : ℕ} → BegunWith t q p → (q ≤ p) × (p < endAt t q)
+  begun-within a itself = (omega arith, a)
+  begun-within a (child u p b c e) = go (begun-within a b)
+    where
+      go : (q ≤ u) × (u < endAt t q) → (q ≤ p) × (p < endAt t q)
+      go i = at (eq-or-lt-of-le (i .0))
+        where
+          at : (q ≡ u) ⊎ (q < u) → (q ≤ p) × (p < endAt t q)
+          at (inl f) = rw f (omega (arith, c .after), c .before-end)
+          at (inr f) = omega (arith, i .0, c .after, c .before-end, nested t table q u (f, i .1))
+
+  -- so is the parent of a part inside it
+  parent-within : (p u : ℕ) → Inside t q p → parentAt t p ≡ u → (q ≤ u) × (u < endAt t q)
+  parent-within p u i e = go (parent-inside t table q p i)
+    where
+      go : (parentAt t p ≡ q) ⊎ Inside t q (parentAt t p) → (q ≤ u) × (u < endAt t q)
+      go (inl f) = omega (arith, i .0, i .1)
+      go (inr f) = omega (arith, f .0, f .1)
+
+  -- the same as the marks say it
+  begun-marked : q < endAt t q → {p : ℕ} → BegunWith t q p → isMark (markOf p) ≡ true
+  begun-marked a itself = rw (sub-self, initialised-itself t q)
+  begun-marked a (child u p b c e) = go (begun-marked a b) (begun-within a b)
+    where
+      go : isMark (markOf u) ≡ true → (q ≤ u) × (u < endAt t q) → isMark (markOf p) ≡ true
+      go m i = rw (initialised-inside p (omega (arith, c .after, i .0, begun-within a (child u p b c e))), c .parent-is, e, m)
+
+  begun-step : q < endAt t q → (p : ℕ) → q ≤ p → p < endAt t q → isMark (markOf p) ≡ true → ((u : ℕ) → u < p → q ≤ u → u < endAt t q → isMark (markOf u) ≡ true → BegunWith t q u) → BegunWith t q p
+  begun-step a p from before m outer = go (eq-or-lt-of-le from)
+    where
+      go : (q ≡ p) ⊎ (q < p) → BegunWith t q p
+      go (inl e) = subst (λ y. BegunWith t q y) e itself
+      go (inr l) =
+          let u : ℕ = parentAt t p in
+          let i : Inside t q p = (l, before) in
+          let b = flag-true (begins t p && isMark (markOf u)) (rw (initialised-inside p i) at m) in
+          let its = inside-parent t table q p i in
+          let above = parent-within p u i refl in
+          child u p (outer u (its .0) (above .0) (above .1) (and-right (begins t p) (isMark (markOf u)) b)) (record { after = its .0; before-end = its .1; parent-is = refl }) (and-left (begins t p) (isMark (markOf u)) b)
+
+  marked-begun : q < endAt t q → (k p : ℕ) → p < k → q ≤ p → p < endAt t q → isMark (markOf p) ≡ true → BegunWith t q p
+  marked-begun a zero p l from before m = absurd (omega arith)
+  marked-begun a (suc k) p l from before m = begun-step a p from before m (λ u b. marked-begun a k u (omega arith))
+
+  pub initialised-begun : q < endAt t q → (p : ℕ) → q ≤ p → p < endAt t q → (isMark (getD (initialMarks t q) (p - q) 0) ≡ true) ↔ BegunWith t q p
+  initialised-begun a p from before = (marked-begun a (suc p) p (omega arith) from before, begun-marked a)
 
 module _ (t est r : List ℕ) where
   -- "Beginning a run: phase 0, last time 0, no clock started, the estimate stored, the root initialised"; "A longer buffer's further bytes are untouched"

@@ -12,3 +12,5 @@ pub mod TableRows
 pub mod Conditions
 pub mod RoundTrip
 pub mod Instead
+pub mod ZeroOrOne
+pub mod Stepping

@@ -4,19 +4,19 @@ use native.Mathlib.Nat.{add-suc}
 use native.Mathlib.Omega.{arith}
 use mathlib.Core.Path.{_≡_, refl, sym, ap, ap₂, _∙_}
 use mathlib.Core.Bool.{true, cond}
-use mathlib.Core.Logic.{inl, inr}
+use mathlib.Core.Logic.{_⊎_, inl, inr}
 use mathlib.Core.List.{List, [], _∷_, map}
 use lib.ListN.{length, getD, set, drop}
 use lib.Seq.{sets, length-sets}
 use Rattle.base.specs.Lists.{flat, bytesAt}
 use Rattle.base.proofs.Lists.{length-tabulate, getD-tabulate, tabulate-same}
-use Rattle.base.proofs.Stores.{length-bytes, getD-bytes, drop-bytes, bytes-sets-out, bytes-sets, drop-sets-out}
+use Rattle.base.proofs.Stores.{length-bytes, getD-bytes, getD-sets-out, drop-bytes, bytes-sets-out, bytes-sets, drop-sets-out}
 use Rattle.meaning.specs.Sizes.{maxParts, timeWidth, littleEndian, littleEndianValue, timeLimit, byteValues}
 use Rattle.meaning.specs.Program.{parts, variables, clocks}
 use Rattle.meaning.specs.Table.{isTable}
 use Rattle.meaning.specs.Record.{timePlace, estimatePlace, startedPlace, startsPlace, marksPlace, recordLength, timeAt, lastTime, estimateIn, startedIn, startsIn, marksIn, offered, waiting, finished}
 use Rattle.meaning.specs.Cycle.{checkedMarks, offeredRecord, offerRefusal, offeredInto, settledMarks, settledRecord, settleRefusal, settledInto, rootEnded, startingLeaves, clockFlags, clockStarts}
-use Rattle.sentences.specs.Fields.{Fields}
+use Rattle.sentences.specs.Fields.{Fields, Spare}
 use Rattle.meaning.proofs.Tables.{table-held}
 use Rattle.meaning.proofs.Records.{time-back, times-back, length-times, length-checked, length-settled, starts-below, allowed-long, estimate-fits}
 use Rattle.meaning.proofs.Refusals.{offer-tests, settle-tests, settled-phase}
@@ -100,6 +100,40 @@ put-all us h (w ∷ ws) g r long =
       rest .2 ∙ drop-sets-out (w .1) r place recordLength (omega (arith, g .1, field-within 0 us h (w .0) (g .0) .1)),
     )
 
+-- a place outside all fields
+abbrev Outside : ℕ → List (ℕ × ℕ) → Type 0
+Outside i [] = Unit {0}
+Outside i (u ∷ us) = ((i < u .0) ⊎ (u .0 + u .1 ≤ i)) × Outside i us
+
+outside-at : (i : ℕ) (us : List (ℕ × ℕ)) → Outside i us → (m : ℕ) → m < length us → (i < fieldAt us m .0) ⊎ (fieldAt us m .0 + fieldAt us m .1 ≤ i)
+outside-at i [] o m l = absurd (omega arith)
+outside-at i (u ∷ us) o zero l = o .0
+outside-at i (u ∷ us) o (suc m) l = outside-at i us (o .1) m (omega arith)
+
+-- "entries beyond V, K and N" stand there
+spare-outside : (t : List ℕ) → isTable t ≡ true → (i : ℕ) → Spare t i → Outside i (fields t)
+spare-outside t h i s = go s
+  where
+    order : After 0 (fields t)
+    order = in-order t h
+
+    go : Spare t i → Outside i (fields t)
+    go (inl a) = (inr (omega arith), (inr (omega arith), (inr (omega arith), (inl (omega arith), (inl (omega arith), (inl (omega arith), tt))))))
+    go (inr (inl a)) = (inr (omega arith), (inr (omega arith), (inr (omega (arith, order)), (inr (omega arith), (inl (omega arith), (inl (omega arith), tt))))))
+    go (inr (inr (inl a))) = (inr (omega arith), (inr (omega arith), (inr (omega (arith, order)), (inr (omega (arith, order)), (inr (omega arith), (inl (omega arith), tt))))))
+    go (inr (inr (inr a))) = (inr (omega arith), (inr (omega arith), (inr (omega (arith, order)), (inr (omega (arith, order)), (inr (omega (arith, order)), (inr (omega arith), tt))))))
+
+-- stores of fields leave it as it was
+put-outside : (us : List (ℕ × ℕ)) (i : ℕ) → Outside i us → (ws : List (ℕ × List ℕ)) → Fitting us ws → (r : List ℕ) → getD (putAll us ws r) i 0 ≡ getD r i 0
+put-outside us i o [] g r = refl
+put-outside us i o (w ∷ ws) g r =
+    let place = fieldAt us (w .0) .0 in
+    put-outside us i o ws (g .2) (sets r place (w .1)) ∙ getD-sets-out (w .1) r place i (rw (g .1) (outside-at i us o (w .0) (g .0)))
+
+put-length : (us : List (ℕ × ℕ)) (ws : List (ℕ × List ℕ)) (r : List ℕ) → length (putAll us ws r) ≡ length r
+put-length us [] r = refl
+put-length us (w ∷ ws) r = put-length us ws (sets r (fieldAt us (w .0) .0) (w .1)) ∙ length-sets r (fieldAt us (w .0) .0) (w .1)
+
 -- times are read from the bytes where they stand
 module _ (r q : List ℕ) (j n : ℕ) (e : bytesAt r j n ≡ bytesAt q j n) where
   byte-same : (i : ℕ) → i < n → getD r (j + i) 0 ≡ getD q (j + i) 0
@@ -125,11 +159,16 @@ times-read t r xs n small long e =
 
 -- "The phase becomes 1 and the time becomes the last time"; the marks are those that the check leaves, and all else stays
 module _ (t r : List ℕ) (time room : ℕ) (h : offerRefusal t r time room ≡ 0) where
+  abbrev offerStores : List (ℕ × List ℕ)
+  offerStores = (0, offered ∷ []) ∷ (1, littleEndian timeWidth time) ∷ (5, checkedMarks t r time) ∷ []
+
+  offer-fitting : Fitting (fields t) offerStores
+  offer-fitting = (omega arith, refl, (omega arith, refl, (omega arith, length-checked t _ 0 (marksIn t r) 0 ∙ length-bytes r marksPlace (parts t), tt)))
+
   pub offered-record : time < timeLimit → Fields t (offeredInto t r time room) offered time (estimateIn t r) (startedIn t r) (startsIn t r) (checkedMarks t r time) (drop recordLength r)
   unfolding offeredInto
   offered-record fits =
-      let a = put-all (fields t) (in-order t (offer-tests t r time room h .0)) ((0, offered ∷ []) ∷ (1, littleEndian timeWidth time) ∷ (5, checkedMarks t r time) ∷ [])
-      ((omega arith, refl, (omega arith, refl, (omega arith, length-checked t _ 0 (marksIn t r) 0 ∙ length-bytes r marksPlace (parts t), tt)))) r (allowed-long t r (offer-tests t r time room h .1 .0)) in
+      let a = put-all (fields t) (in-order t (offer-tests t r time room h .0)) offerStores offer-fitting r (allowed-long t r (offer-tests t r time room h .1 .0)) in
       rw h
       (record {
         phase-is = ap (λ (cs : List (List ℕ)). getD (getD cs 0 []) 0 0) (a .1);
@@ -140,6 +179,15 @@ module _ (t r : List ℕ) (time room : ℕ) (h : offerRefusal t r time room ≡ 
         marks-are = ap (λ (cs : List (List ℕ)). getD cs 5 []) (a .1);
         more-is = a .2;
       })
+
+  -- "entries beyond V, K and N" and the bytes after the record stay, each in its place
+  pub offered-spare : (i : ℕ) → Spare t i → getD (offeredInto t r time room) i 0 ≡ getD r i 0
+  unfolding offeredInto
+  offered-spare i s = rw h (put-outside (fields t) i (spare-outside t (offer-tests t r time room h .0) i s) offerStores offer-fitting r)
+
+  pub offered-length : length (offeredInto t r time room) ≡ length r
+  unfolding offeredInto
+  offered-length = rw h (put-length (fields t) offerStores r)
 
 -- "If the root ends, phase is 2, else 0"; "The new estimate is stored"; clocks and marks are those of the settling, and all else stays
 module _ (t r est : List ℕ) (h : settleRefusal t r est ≡ 0) where
@@ -155,24 +203,39 @@ module _ (t r est : List ℕ) (h : settleRefusal t r est ≡ 0) where
       (λ c l. rw getD-tabulate (time-small r bytes (startsPlace + timeWidth * (0 + c))))
       (time-small r bytes timePlace)
 
+  abbrev settleStores : List (ℕ × List ℕ)
+  settleStores = (0, cond (rootEnded (settledMarks t r est)) finished waiting ∷ []) ∷ (2, est) ∷ (3, flags) ∷ (4, flat (littleEndian timeWidth) times) ∷ (5, settledMarks t r est) ∷ []
+
+  length-starts : length times ≡ clocks t
+  length-starts = length-tabulate _ 0 (clocks t)
+
+  settle-fitting : Fitting (fields t) settleStores
+  settle-fitting =
+      let w : length (flat (littleEndian timeWidth) times) ≡ timeWidth * clocks t = rw length-starts at (length-times times) in
+      (omega arith, refl, (omega arith, estimate-fits t est (settle-tests t r est h .1 .1 .1 .1 .0) .0, (omega arith, length-tabulate _ 0 (clocks t), (omega arith, w, (omega arith, length-settled t _ 0 (marksIn t r) ∙ length-bytes r marksPlace (parts t), tt)))))
+
   -- a time is read back where the record is one of bytes
   pub settled-record : ((i : ℕ) → getD r i 0 < byteValues)
       → Fields t (settledInto t r est) (cond (rootEnded (settledMarks t r est)) finished waiting) (lastTime r) est flags times (settledMarks t r est) (drop recordLength r)
   unfolding settledInto
   settled-record bytes =
-      let n : length times ≡ clocks t = length-tabulate _ 0 (clocks t) in
-      let w : length (flat (littleEndian timeWidth) times) ≡ timeWidth * clocks t = rw n at (length-times times) in
       let order = in-order t (settle-tests t r est h .0) in
-      let a = put-all (fields t) order ((0, cond (rootEnded (settledMarks t r est)) finished waiting ∷ []) ∷ (2, est) ∷ (3, flags) ∷ (4, flat (littleEndian timeWidth) times) ∷ (5, settledMarks t r est) ∷ [])
-      (omega arith, refl, (omega arith, estimate-fits t est (settle-tests t r est h .1 .1 .1 .1 .0) .0, (omega arith, length-tabulate _ 0 (clocks t), (omega arith, w, (omega arith, length-settled t _ 0 (marksIn t r) ∙ length-bytes r marksPlace (parts t), tt)))))
-      r (allowed-long t r (settle-tests t r est h .1 .0)) in
+      let a = put-all (fields t) order settleStores settle-fitting r (allowed-long t r (settle-tests t r est h .1 .0)) in
       rw h
       (record {
         phase-is = settled-phase t r est h;
         time-is = time-same (settledRecord t r est) r timePlace timeWidth (ap (λ (cs : List (List ℕ)). getD cs 1 []) (a .1)) 0 (omega arith);
         estimate-is = ap (λ (cs : List (List ℕ)). getD cs 2 []) (a .1);
         started-is = ap (λ (cs : List (List ℕ)). getD cs 3 []) (a .1);
-        starts-are = times-read t (settledRecord t r est) times n (λ c l. times-small bytes c (rw n at l)) (omega (arith, a .0, field-within 0 (fields t) order 4 (omega arith) .1)) (ap (λ (cs : List (List ℕ)). getD cs 4 []) (a .1));
+        starts-are = times-read t (settledRecord t r est) times length-starts (λ c l. times-small bytes c (rw length-starts at l)) (omega (arith, a .0, field-within 0 (fields t) order 4 (omega arith) .1)) (ap (λ (cs : List (List ℕ)). getD cs 4 []) (a .1));
         marks-are = ap (λ (cs : List (List ℕ)). getD cs 5 []) (a .1);
         more-is = a .2;
       })
+
+  pub settled-spare : (i : ℕ) → Spare t i → getD (settledInto t r est) i 0 ≡ getD r i 0
+  unfolding settledInto
+  settled-spare i s = rw h (put-outside (fields t) i (spare-outside t (settle-tests t r est h .0) i s) settleStores settle-fitting r)
+
+  pub settled-length : length (settledInto t r est) ≡ length r
+  unfolding settledInto
+  settled-length = rw h (put-length (fields t) settleStores r)

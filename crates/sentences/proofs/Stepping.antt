@@ -1,0 +1,161 @@
+-- A beginning, an offer and a settling that are not refused do what document 01 says of them.
+use Prim.Native.Nat.{ℕ, _+_, _-_, _≤_, _<_}
+use native.Mathlib.Nat.{sub-zero, zero-add}
+use native.Mathlib.Omega.{arith}
+use mathlib.Core.Path.{_≡_, sym, ap, _∙_}
+use mathlib.Core.Bool.{Bool, true, _&&_}
+use mathlib.Core.Logic.{_↔_, _⊎_, inl, inr}
+use mathlib.Core.List.{List}
+use lib.ListN.{length, getD, drop, getD-replicate, List·getD-eq-default}
+use lib.Seq.{length-sets, getD-drop}
+use borrow.Author.Tests.{eqb-true, eq-eqb}
+use Rattle.base.proofs.Lists.{and-left, and-right}
+use Rattle.base.proofs.Stores.{length-bytes, getD-bytes}
+use Rattle.meaning.specs.declared.Entry.{Entry}
+use Rattle.meaning.specs.declared.Form.the-variants.{Table}
+use Rattle.meaning.specs.Sizes.{timeLimit}
+use Rattle.meaning.specs.Kinds.{MAINTAIN, kindOf, numberOf}
+use Rattle.meaning.specs.Program.{parts, variables, entryAt}
+use Rattle.meaning.specs.Table.{kindAt, operandOf, endAt, Inside, isTable}
+use Rattle.meaning.specs.Conditions.{Situation, violated}
+use Rattle.meaning.specs.Record.{estimatePlace, startedPlace, startsPlace, marksPlace, recordLength, estimateIn, marksIn, isMark, restZero, recordAllowed, waiting}
+use Rattle.meaning.specs.Cycle.{initialMarks, isKind, breaks, checkedFrom, situation, beginRefusal, begunInto, offeredGoals, offerRefusal, offeredInto, goalsInto}
+use Rattle.meaning.proofs.Lies.{own-row, own-kind}
+use Rattle.meaning.proofs.Nesting.{lower, at, outer-part}
+use Rattle.meaning.proofs.Refusals.{offer-tests, goal-bytes-into}
+use Rattle.meaning.proofs.Tables.{root-there, root-end}
+use Rattle.meaning.proofs.Records.{length-root, begin-tests, begun-fits, begun-bytes, rest-zero}
+use Rattle.sentences.specs.Marks.{Marked, Flags}
+use Rattle.sentences.specs.Fields.{Spare}
+use Rattle.sentences.specs.Stepping.{BegunWith, BeginningSteps, Broken, OfferSteps}
+use Rattle.sentences.proofs.Initialised.{begun-within, initialised-begun, begun-record}
+use Rattle.sentences.proofs.AllowedRecords.{rest-right, exactly-allowed}
+use Rattle.sentences.proofs.Settlings.{marked-length}
+use Rattle.sentences.proofs.ZeroOrOne.{flags-initial, flags-checked}
+use Rattle.sentences.proofs.Checked.{offer-marks}
+use Rattle.sentences.proofs.GoalBytes.{no-goal, goal-agreed, goal-contested}
+use Rattle.sentences.proofs.RecordFields.{offered-record, offered-spare, offered-length}
+
+-- bytes that stand from a place on, one by one
+further : (n : ℕ) (r s : List ℕ) → drop n s ≡ drop n r → (i : ℕ) → n ≤ i → getD s i 0 ≡ getD r i 0
+further n r s e i l =
+    let k : n + (i - n) ≡ i = omega arith in
+    rw k at (sym (getD-drop n s (i - n) 0) ∙ ap (λ (x : List ℕ). getD x (i - n) 0) e ∙ getD-drop n r (i - n) 0)
+
+-- "entries beyond V, K and N are 0", place by place
+spare-blank : (t r : List ℕ) → restZero t r ≡ true → (i : ℕ) → Spare t i → i < recordLength → getD r i 0 ≡ 0
+spare-blank t r h i s l = go s
+  where
+    go : Spare t i → getD r i 0 ≡ 0
+    go (inl a) =
+        let k : estimatePlace + (i - estimatePlace) ≡ i = omega arith in
+        rw k at (rest-right t r .0 h .0 (i - estimatePlace) (omega arith) (omega arith))
+    go (inr (inl a)) =
+        let k : startedPlace + (i - startedPlace) ≡ i = omega arith in
+        rw k at (rest-right t r .0 h .1 .0 (i - startedPlace) (omega arith) (omega arith))
+    go (inr (inr (inl a))) =
+        let k : startsPlace + (i - startsPlace) ≡ i = omega arith in
+        rw k at (rest-right t r .0 h .1 .1 .0 (i - startsPlace) (omega arith) (omega arith))
+    go (inr (inr (inr a))) =
+        let k : marksPlace + (i - marksPlace) ≡ i = omega arith in
+        rw k at (rest-right t r .0 h .1 .1 .1 (i - marksPlace) (omega arith) (omega arith))
+
+-- "the root initialised"
+root-begun : (t : List ℕ) → isTable t ≡ true → (p : ℕ) → Marked (initialMarks t 0) p ↔ BegunWith t 0 p
+root-begun t h p = (λ m. begun (omega (arith, marked-length (initialMarks t 0) p m, length-root t h, root-end t h)) .0 m, λ b. begun (begun-within t h 0 some b .1) .1 b)
+  where
+    some : 0 < endAt t 0
+    some = omega (arith, root-there t h, root-end t h)
+
+    begun : p < endAt t 0 → Marked (initialMarks t 0) p ↔ BegunWith t 0 p
+    begun l = rw sub-zero at (initialised-begun t h 0 some p (omega arith) l)
+
+module _ (t est r : List ℕ) (h : beginRefusal t est (length r) ≡ 0) where
+  begun-length : length (begunInto t est r) ≡ length r
+  unfolding begunInto
+  begun-length = rw (h, length-sets)
+
+  pub beginning-steps : BeginningSteps t est r (begunInto t est r)
+  beginning-steps =
+      let table : isTable t ≡ true = begin-tests t est (length r) h .0 in
+      let whole : length (initialMarks t 0) ≡ parts t = length-root t table in
+      let f = begun-record t est r h in
+      record {
+        begins-waiting = f .phase-is;
+        begins-at = f .time-is;
+        none-started = λ c l. (rw (f .started-is, getD-replicate), rw (f .starts-are, getD-replicate));
+        first-stored = f .estimate-is;
+        root-initialised = rw (f .marks-are) (root-begun t table);
+        first-marks = rw (f .marks-are) (flags-initial t 0);
+        spare-zero = rw (begun-bytes t est r h whole) (spare-blank t _ (rest-zero (begun-fits t est (length r) h whole) waiting (drop recordLength r)));
+        further-kept = further recordLength r (begunInto t est r) (f .more-is);
+        buffer-length = begun-length;
+      }
+
+-- a kind byte and the kind that it stands for
+kind-byte : (t : List ℕ) → isTable t ≡ true → (p : ℕ) → p < parts t → entryAt Table t p .kind ≡ numberOf (kindAt t p)
+kind-byte t h p l =
+    let a = at t h p l in
+    ap (λ (e : Entry). e .kind) (own-row (a .lies) .entry-is) ∙ ap numberOf (sym (own-kind (a .lies)))
+
+module _ (t : List ℕ) (h : isTable t ≡ true) (sit : Situation) (ms : List ℕ) (p : ℕ) where
+  -- "a marked MAINTAIN whose condition is violated"
+  breaks-broken : breaks t sit p (getD ms p 0) ≡ true → Broken t sit ms p
+  unfolding kindOf numberOf
+  breaks-broken b =
+      let e : Entry = entryAt Table t p in
+      let rest : Bool = isKind MAINTAIN e && violated sit (operandOf t p) in
+      let c = and-right (isMark (getD ms p 0)) rest b in
+      (and-left (isMark (getD ms p 0)) rest b, ap kindOf (eqb-true (e .kind) (numberOf MAINTAIN) (and-left (isKind MAINTAIN e) (violated sit (operandOf t p)) c)), and-right (isKind MAINTAIN e) (violated sit (operandOf t p)) c)
+
+  broken-breaks : p < parts t → Broken t sit ms p → breaks t sit p (getD ms p 0) ≡ true
+  broken-breaks l b = rw (b .0, eq-eqb (entryAt Table t p .kind) (numberOf MAINTAIN) (kind-byte t h p l ∙ ap numberOf (b .1)), b .2)
+
+-- "loses every mark inside it and stays marked"
+checked-marks : (t : List ℕ) → isTable t ≡ true → (sit : Situation) (ms : List ℕ) (p : ℕ) → Marked (checkedFrom t sit 0 ms 0) p ↔ (Marked ms p × ((q : ℕ) → Inside t q p → Broken t sit ms q → ⊥))
+checked-marks t h sit ms p =
+    let marks = offer-marks t h sit ms p in (
+      λ m. (marks .0 m .0, λ q i b. marks .0 m .1 q i (broken-breaks t h sit ms q (outer-part t h q p i) b)),
+      λ m. marks .1 (m .0, λ q i b. m .1 q i (breaks-broken t h sit ms q b)),
+    )
+
+-- the marks of an allowed record
+record-flags : (t r : List ℕ) → recordAllowed t r ≡ true → Flags (marksIn t r)
+record-flags t r h p = go (lower p (parts t))
+  where
+    go : (p < parts t) ⊎ (parts t ≤ p) → getD (marksIn t r) p 0 ≤ 1
+    go (inl l) = exactly-allowed t r .0 h .marks-named p l
+    go (inr l) =
+        let d : length (marksIn t r) ≤ p = rw length-bytes l in
+        rw (List·getD-eq-default (marksIn t r) 0 d) (omega arith)
+
+module _ (t r : List ℕ) (time : ℕ) (goals : List ℕ) (h : offerRefusal t r time (length goals) ≡ 0) where
+  goals-as-long : length (goalsInto t r time goals) ≡ length goals
+  unfolding goalsInto
+  goals-as-long = rw (h, length-sets)
+
+  goal-is : (v : ℕ) → v < variables t → getD (goalsInto t r time goals) v 0 ≡ getD (offeredGoals t r time) v 0
+  goal-is v l = rw zero-add at (sym (getD-bytes (goalsInto t r time goals) 0 (variables t) v l)) ∙ ap (λ (x : List ℕ). getD x v 0) (goal-bytes-into t r time goals h .0)
+
+  pub offer-steps : time < timeLimit → OfferSteps t r time goals (offeredInto t r time (length goals)) (goalsInto t r time goals)
+  offer-steps fits =
+      let room : ℕ = length goals in
+      let table : isTable t ≡ true = offer-tests t r time room h .0 in
+      let sit : Situation = situation t r (estimateIn t r) time in
+      let ms : List ℕ = marksIn t r in
+      let f = offered-record t r time room h fits in
+      record {
+        phase-offered = f .phase-is;
+        time-offered = f .time-is;
+        marks-checked = rw (f .marks-are) (checked-marks t table sit ms);
+        checked-flags = rw (f .marks-are) (flags-checked t sit ms 0 0 (record-flags t r (offer-tests t r time room h .1 .0)));
+        goal-none = λ v l. rw (goal-is v l, f .marks-are) (no-goal t r time table v l);
+        goal-value = λ v l x. rw (goal-is v l, f .marks-are) (goal-agreed t r time table v l x);
+        goal-differs = λ v l. rw (goal-is v l, f .marks-are) (goal-contested t r time table v l);
+        goals-kept = further (variables t) goals (goalsInto t r time goals) (goal-bytes-into t r time goals h .1);
+        goals-length = goals-as-long;
+        estimate-kept = f .estimate-is;
+        clocks-kept = (f .started-is, f .starts-are);
+        offer-spare = offered-spare t r time room h;
+        offer-length = offered-length t r time room h;
+      }
