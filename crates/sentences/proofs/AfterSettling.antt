@@ -4,60 +4,33 @@ use native.Mathlib.Nat.{zero-add, add-zero, eq-or-lt-of-le, eq-zero-or-pos, sub-
 use native.Mathlib.Omega.{arith}
 use mathlib.Core.Path.{_≡_, refl, sym, ap, _∙_, subst}
 use mathlib.Core.Logic.{_↔_, _⊎_, inl, inr, ⊎-map}
-use mathlib.Core.Bool.{Bool, true, false, false≢true, _&&_, or-true}
+use mathlib.Core.Bool.{Bool, true, false, not, false≢true}
 use mathlib.Core.List.{List, [], _∷_}
-use lib.Dec.{eqb, leb}
+use lib.Dec.{eqb}
 use lib.ListN.{length, getD, take, drop, length-drop}
-use lib.Seq.{length-sets, getD-drop, getD-take}
+use lib.Seq.{length-sets, getD-take}
 use borrow.Author.Tests.{eqb-true, eqb-false, eq-eqb}
-use Rattle.base.specs.Lists.{any}
 use Rattle.base.proofs.Lists.{and-left, and-right}
-use Rattle.base.proofs.Stores.{length-bytes, getD-sets-in, getD-sets-out}
+use Rattle.base.proofs.Stores.{getD-sets-in, getD-sets-out}
 use Rattle.meaning.specs.Sizes.{noPart}
 use Rattle.meaning.specs.Tree.{Part, goal, start, wait, seq, par, maintain, choice, repeat}
 use Rattle.meaning.specs.Program.{parts}
-use Rattle.meaning.specs.Table.{endAt, parentAt, nextAt, insideOf, isTable}
+use Rattle.meaning.specs.Table.{endAt, parentAt, nextAt, Inside, insideOf, isTable}
 use Rattle.meaning.specs.Conditions.{Situation}
-use Rattle.meaning.specs.Record.{marksPlace, recordLength, phaseOf, lastTime, marksIn, isMark, restZero, valuesAllowed, clocksAllowed, markedChildren, childrenAllowed, partAllowed, partsAllowed, rootAllowed, recordAllowed}
+use Rattle.meaning.specs.Record.{isMark, markedChildren, childrenAllowed, partAllowed, partsAllowed}
 use Rattle.meaning.specs.declared.Transition.{Transition}
 use Rattle.meaning.specs.declared.Transition.the-variants.{Stays, Ends, First, Second}
-use Rattle.meaning.specs.Cycle.{initialMarks, initialised, settledFrom, situation, settledMarks}
+use Rattle.meaning.specs.Cycle.{initialMarks, initialised, settledFrom}
 use Rattle.sentences.specs.Marks.{Marked}
-use Rattle.meaning.proofs.Decisions.{decides, decides-kind}
+use Rattle.sentences.specs.Stepping.{BegunWith, StaysMarked, childTaken, Initialises, MarkedBy, MarkedInside}
+use Rattle.meaning.proofs.Decisions.{decides}
 use Rattle.meaning.proofs.Tables.{Later, LinksInside, inside}
 use Rattle.meaning.proofs.Records.{length-initial, length-settled}
 use Rattle.meaning.proofs.Lies.{Lies, own-kind, own-inside}
 use Rattle.meaning.proofs.Nesting.{lower, at, root-next, inside-root, nested}
-use Rattle.sentences.proofs.Followers.{Followed, Branches, next-nested, choice-branches}
-use Rattle.sentences.proofs.Settlings.{later, insideBefore, insideAfter, transitionAt, EndsAt, TakesFirst, TakesSecond, marked-length, composite-ends, deciding-stays, unmarked-unjudged, end-no-next, end-next, decides-first, decides-second, stays, kept-own}
-
--- a part that was marked and does not end
-abbrev pub StaysMarked : List ℕ → Situation → List ℕ → ℕ → Type 0
-StaysMarked t sit ms n = Marked ms n × (transitionAt t sit ms n ≡ Ends → ⊥)
-
--- part q, a deciding CHOICE, takes its child x
-abbrev pub TakesChild : List ℕ → Situation → List ℕ → ℕ → ℕ → Type 0
-TakesChild t sit ms q x = (TakesFirst t sit ms q × (suc q ≡ x)) ⊎ (TakesSecond t sit ms q × (endAt t (suc q) ≡ x))
-
--- part q initialises part x: its next where it ends, or the child that it takes
-abbrev pub Initialises : List ℕ → Situation → List ℕ → ℕ → ℕ → Type 0
-Initialises t sit ms q x = (EndsAt t sit ms q × (nextAt t q ≡ x) × (x ≡ noPart → ⊥)) ⊎ TakesChild t sit ms q x
-
--- part n is marked where the part `at`, itself or around it, is initialised by the part `by`
-pub record Initialised (t : List ℕ) (sit : Situation) (ms : List ℕ) (n : ℕ) : Type 0 where
-  pub by : ℕ
-  pub at : ℕ
-  pub initialises : Initialises t sit ms by at
-  pub from : at ≤ n
-  pub before : n < endAt t at
-  pub marked : Marked (initialMarks t at) (n - at)
-
--- something is marked among the first of some marks
-any-at : (l : List ℕ) (k i : ℕ) → i < k → Marked l i → any isMark (take k l) ≡ true
-any-at [] k i a m = absurd (false≢true m)
-any-at (x ∷ l) zero i a m = absurd (omega arith)
-any-at (x ∷ l) (suc k) zero a m = rw m
-any-at (x ∷ l) (suc k) (suc i) a m = rw (any-at l k i (omega arith) m) (or-true (isMark x))
+use Rattle.sentences.proofs.Followers.{Followed, next-nested}
+use Rattle.sentences.proofs.Initialised.{begun-within, initialised-begun}
+use Rattle.sentences.proofs.Settlings.{later, insideBefore, insideAfter, transitionAt, endsAt, Undeciding, marked-length, any-at, any-found, after-part, inside-marked, ends-marked, empty-deciding, composite-ends, decides-deciding, deciding-stays, unmarked-unjudged, end-no-next, end-next, deciding-takes, stays, takes-inside, kept-own}
 
 -- marks from part p on in which part x is initialised: of part n
 module _ (t l : List ℕ) (p x n : ℕ) (a : p ≤ n) (b : p ≤ x) (c : x < endAt t x) where
@@ -135,16 +108,6 @@ allowed-at t phase (m ∷ ms) a (suc p) h l =
     let k : suc a + p ≡ a + suc p = omega arith in
     rw k at (allowed-at t phase ms (suc a) p (and-right (partAllowed t phase a m ms) (partsAllowed t phase (suc a) ms) h) (omega arith))
 
--- a mark after part p, as one of the marks after it
-after-part : (ms : List ℕ) (p n : ℕ) → p < n → Marked ms n → Marked (drop (suc p) ms) (n - suc p)
-after-part ms p n a m =
-    let e : suc p + (n - suc p) ≡ n = omega arith in
-    rw (getD-drop (suc p) ms (n - suc p) 0, e) m
-
--- a mark inside part p
-inside-marked : (t ms : List ℕ) (p n : ℕ) → p < n → n < endAt t p → Marked ms n → insideBefore t ms p ≡ true
-inside-marked t ms p n a b m = any-at (drop (suc p) ms) (insideOf t p) (n - suc p) (omega arith) (after-part ms p n a m)
-
 -- two marked children of part u
 two-inside : (t ms : List ℕ) (u p x : ℕ) → u < p → p < x → x < endAt t u → Marked ms p → parentAt t p ≡ u → Marked ms x → parentAt t x ≡ u → 2 ≤ markedChildren t u (suc u) (take (insideOf t u) (drop (suc u) ms))
 two-inside t ms u p x a b c m e n d =
@@ -156,45 +119,32 @@ two-inside t ms u p x a b c m e n d =
     taken q f g k = rw (getD-take (insideOf t u) (drop (suc u) ms) (q - suc u) 0 (omega arith)) (after-part ms u q f k)
 
 module _ (t : List ℕ) (h : isTable t ≡ true) (sit : Situation) (ms : List ℕ) (long : length ms ≡ parts t) where
-  -- a part that initialises another was marked
-  by-marked : (q x : ℕ) → Initialises t sit ms q x → Marked ms q
-  by-marked q x (inl i) = i .0 .0
-  by-marked q x (inr (inl i)) = i .0 .0
-  by-marked q x (inr (inr i)) = i .0 .0
+  abbrev ends : ℕ → Bool
+  ends = endsAt t sit ms
 
-  number-fits : (p : ℕ) → Marked ms p → p < parts t
+  pub number-fits : (p : ℕ) → Marked ms p → p < parts t
   number-fits p m = rw long at (marked-length ms p m)
 
-  -- a part that decides has two children, and nothing is marked inside it before
-  decider : (q : ℕ) → Marked ms q → decides (transitionAt t sit ms q) ≡ true → Branches t q × (insideBefore t ms q ≡ false)
-  decider q m e =
-      let d = decides-kind sit _ _ _ _ e in
-      (choice-branches t h q (number-fits q m) (d .0), d .1)
-
-  -- the child that it takes stands inside it
-  takes : (q x : ℕ) → TakesChild t sit ms q x → (q < x) × (x < endAt t x) × (endAt t x ≤ endAt t q)
-  takes q x (inl i) = rw (← (i .1)) (omega (arith, decider q (i .0 .0) (ap decides (i .0 .1)) .0))
-  takes q x (inr i) = rw (← (i .1)) (omega (arith, decider q (i .0 .0) (ap decides (i .0 .1)) .0))
-
-  takes-empty : (q x : ℕ) → TakesChild t sit ms q x → insideBefore t ms q ≡ false
-  takes-empty q x (inl i) = decider q (i .0 .0) (ap decides (i .0 .1)) .1
-  takes-empty q x (inr i) = decider q (i .0 .0) (ap decides (i .0 .1)) .1
+  -- a part that initialises another was marked
+  pub by-marked : (q x : ℕ) → Initialises t sit ms ends q x → Marked ms q
+  by-marked q x (inl i) = ends-marked t sit ms q (i .0)
+  by-marked q x (inr i) = i .0 .0
 
   -- where a part that is initialised stands: from the part on that initialises it, and up to any end that holds both it and its next
-  reaches : (q x hi : ℕ) → Initialises t sit ms q x → endAt t q ≤ hi → (q < nextAt t q → (nextAt t q ≡ noPart → ⊥) → endAt t (nextAt t q) ≤ hi) → (q ≤ x) × (x < endAt t x) × (endAt t x ≤ hi)
+  reaches : (q x hi : ℕ) → Initialises t sit ms ends q x → endAt t q ≤ hi → (q < nextAt t q → (nextAt t q ≡ noPart → ⊥) → endAt t (nextAt t q) ≤ hi) → (q ≤ x) × (x < endAt t x) × (endAt t x ≤ hi)
   reaches q x hi (inl i) e g = subst (λ y. (q ≤ y) × (y < endAt t y) × (endAt t y ≤ hi)) (i .1) (go (own .next-is))
     where
       own : LinksInside t q
-      own = inside t h q (number-fits q (i .0 .0))
+      own = inside t h q (number-fits q (ends-marked t sit ms q (i .0)))
 
       go : (nextAt t q ≡ noPart) ⊎ ((nextAt t q ≡ q) ⊎ Later t q) → (q ≤ nextAt t q) × (nextAt t q < endAt t (nextAt t q)) × (endAt t (nextAt t q) ≤ hi)
       go (inl z) = absurd (i .2 (sym (i .1) ∙ z))
       go (inr (inl z)) = rw z (omega (arith, own .end-after))
       go (inr (inr l)) = (omega (arith, l .after), inside t h (nextAt t q) (l .before-end) .end-after, g (l .after) (λ z. i .2 (sym (i .1) ∙ z)))
-  reaches q x hi (inr i) e g = omega (arith, takes q x i)
+  reaches q x hi (inr i) e g = rw (← (i .1)) (omega (arith, takes-inside t h sit ms q (number-fits q (i .0 .0)) (i .0)))
 
   -- inside the table, and inside every part around
-  reaches-parts : (q x : ℕ) → Initialises t sit ms q x → (q ≤ x) × (x < endAt t x) × (endAt t x ≤ parts t)
+  reaches-parts : (q x : ℕ) → Initialises t sit ms ends q x → (q ≤ x) × (x < endAt t x) × (endAt t x ≤ parts t)
   reaches-parts q x i =
       let l = number-fits q (by-marked q x i) in
       reaches q x (parts t) i (inside t h q l .end-within) (λ a d. later-within a d (inside t h q l .next-is))
@@ -204,101 +154,97 @@ module _ (t : List ℕ) (h : isTable t ≡ true) (sit : Situation) (ms : List �
       later-within a d (inr (inl z)) = absurd (omega arith)
       later-within a d (inr (inr l)) = inside t h (nextAt t q) (l .before-end) .end-within
 
-  reaches-inside : (n q x : ℕ) → Initialises t sit ms q x → n < q → q < endAt t n → n < parts t → endAt t x ≤ endAt t n
+  reaches-inside : (n q x : ℕ) → Initialises t sit ms ends q x → n < q → q < endAt t n → n < parts t → endAt t x ≤ endAt t n
   reaches-inside n q x i a b c =
       reaches q x (endAt t n) i (nested t h n q (a, b)) (λ l d.
       let f = next-nested t h n q (a, b) l d in
       omega (arith, f .next-within, f .parent-end)) .2
 
+  -- where the parts stand that it marks
+  pub spread : (q x n : ℕ) → Initialises t sit ms ends q x → BegunWith t x n → (q ≤ x) × (x ≤ n) × (n < endAt t x) × (endAt t x ≤ parts t)
+  spread q x n i b =
+      let r = reaches-parts q x i in
+      let w = begun-within t h x (r .1) b in
+      (r .0, w .0, w .1, r .2)
+
   -- where a part ends nothing is marked inside it any more
-  ends-empty : (p : Part) {q u x : ℕ} → Lies t p q u x → EndsAt t sit ms q → insideAfter t sit ms q ≡ false
+  ended-empty : (q : ℕ) → ends q ≡ true → Undeciding t ms q → insideAfter t sit ms q ≡ false
+  ended-empty q e u = go (insideAfter t sit ms q) (sym (composite-ends t sit ms q (ends-marked t sit ms q e) u) ∙ e)
+    where
+      go : (b : Bool) → not b ≡ true → b ≡ false
+      go true d = absurd (false≢true d)
+      go false d = refl
+
+  ends-empty : (p : Part) {q u x : ℕ} → Lies t p q u x → ends q ≡ true → insideAfter t sit ms q ≡ false
   ends-empty (goal o) l e = rw (own-inside l)
   ends-empty (start o) l e = rw (own-inside l)
   ends-empty (wait o) l e = rw (own-inside l)
-  ends-empty (seq ps) {q} l e = composite-ends t sit ms q (e .0) (inl (own-kind l)) .0 e
-  ends-empty (par ps) {q} l e = composite-ends t sit ms q (e .0) (inr (inl (own-kind l))) .0 e
-  ends-empty (maintain o p) {q} l e = composite-ends t sit ms q (e .0) (inr (inr (inl (own-kind l)))) .0 e
+  ends-empty (seq ps) {q} l e = ended-empty q e (inl (own-kind l))
+  ends-empty (par ps) {q} l e = ended-empty q e (inr (inl (own-kind l)))
+  ends-empty (maintain o p) {q} l e = ended-empty q e (inr (inr (inl (own-kind l))))
   ends-empty (choice o a b) {q} l e = go (insideBefore t ms q) refl
     where
       go : (c : Bool) → insideBefore t ms q ≡ c → insideAfter t sit ms q ≡ false
-      go true k = composite-ends t sit ms q (e .0) (inr (inr (inr (inr (own-kind l, k))))) .0 e
-      go false k = absurd (deciding-stays t sit ms q (e .0) (own-kind l) k e)
-  ends-empty (repeat p) {q} l e = composite-ends t sit ms q (e .0) (inr (inr (inr (inl (own-kind l))))) .0 e
+      go true k = ended-empty q e (inr (inr (inr (inr (own-kind l, k)))))
+      go false k = absurd (false≢true (sym (deciding-stays t sit ms q (empty-deciding t ms q (ends-marked t sit ms q e) (own-kind l) k)) ∙ e))
+  ends-empty (repeat p) {q} l e = ended-empty q e (inr (inr (inr (inl (own-kind l)))))
 
   -- the marks from part p on after the settling, where it initialises a part and where it does not
-  turn-initialises : (p x : ℕ) → Initialises t sit ms p x → (m : ℕ) × (isMark m ≡ true → StaysMarked t sit ms p) × (settledFrom t sit p (drop p ms) ≡ initialised t p x (m ∷ later t sit ms p))
+  turn-initialises : (p x : ℕ) → Initialises t sit ms ends p x → (m : ℕ) × (isMark m ≡ true → StaysMarked ms ends p) × (settledFrom t sit p (drop p ms) ≡ initialised t p x (m ∷ later t sit ms p))
   turn-initialises p x (inl i) =
       (0, λ z. absurd (false≢true z), subst (λ y. settledFrom t sit p (drop p ms) ≡ initialised t p y (0 ∷ later t sit ms p)) (i .1) (end-next t sit ms p (i .0) (λ z. i .2 (sym (i .1) ∙ z))))
-  turn-initialises p x (inr (inl i)) =
-      let one : suc p - p ≡ 1 = omega arith in
-      (1, λ z. (i .0 .0, λ e. false≢true (ap decides (sym e ∙ i .0 .1))), subst (λ y. settledFrom t sit p (drop p ms) ≡ initialised t p y (1 ∷ later t sit ms p)) (i .1) (rw one (decides-first t sit ms p (i .0))))
-  turn-initialises p x (inr (inr i)) =
-      (1, λ z. (i .0 .0, λ e. false≢true (ap decides (sym e ∙ i .0 .1))), subst (λ y. settledFrom t sit p (drop p ms) ≡ initialised t p y (1 ∷ later t sit ms p)) (i .1) (decides-second t sit ms p (i .0)))
+  turn-initialises p x (inr i) =
+      (1, λ z. (i .0 .0, deciding-stays t sit ms p (i .0)), subst (λ y. settledFrom t sit p (drop p ms) ≡ initialised t p y (1 ∷ later t sit ms p)) (i .1) (deciding-takes t sit ms p (i .0)))
 
   abbrev Turn : ℕ → Type 0
-  Turn p = ((x : ℕ) × Initialises t sit ms p x) ⊎ ((m : ℕ) × (isMark m ≡ true → StaysMarked t sit ms p) × (settledFrom t sit p (drop p ms) ≡ m ∷ later t sit ms p))
+  Turn p = ((x : ℕ) × Initialises t sit ms ends p x) ⊎ ((m : ℕ) × (isMark m ≡ true → StaysMarked ms ends p) × (settledFrom t sit p (drop p ms) ≡ m ∷ later t sit ms p))
 
   turn : (p : ℕ) → p < length ms → Turn p
   turn p l = judged (isMark (getD ms p 0)) refl
     where
-      ended : EndsAt t sit ms p → (b : Bool) → eqb (nextAt t p) noPart ≡ b → Turn p
+      ended : ends p ≡ true → (b : Bool) → eqb (nextAt t p) noPart ≡ b → Turn p
       ended e true n = inr (0, λ z. absurd (false≢true z), end-no-next t sit ms p e (eqb-true (nextAt t p) noPart n))
       ended e false n = inl (nextAt t p, inl (e, refl, eqb-false (nextAt t p) noPart n))
 
       met : Marked ms p → (f : Transition) → transitionAt t sit ms p ≡ f → Turn p
-      met m Stays e = inr (1, λ z. (m, λ d. stays-on (sym e ∙ d)), stays t sit ms p (m, e))
-        where
-          stays-on : Stays ≡ Ends → ⊥
-          stays-on d = false≢true cc
-      met m Ends e = ended (m, e) (eqb (nextAt t p) noPart) refl
-      met m First e = inl (suc p, inr (inl ((m, e), refl)))
-      met m Second e = inl (endAt t (suc p), inr (inr ((m, e), refl)))
+      met m Stays e = inr (1, λ z. (m, rw (m, e)), stays t sit ms p m e)
+      met m Ends e = ended (rw (m, e)) (eqb (nextAt t p) noPart) refl
+      met m First e = inl (childTaken t sit p, inr (decides-deciding t sit ms p m (ap decides e), refl))
+      met m Second e = inl (childTaken t sit p, inr (decides-deciding t sit ms p m (ap decides e), refl))
 
       judged : (b : Bool) → isMark (getD ms p 0) ≡ b → Turn p
       judged true m = met m (transitionAt t sit ms p) refl
       judged false m = inr (0, λ z. absurd (false≢true z), unmarked-unjudged t sit ms p l m)
 
   -- a part marked once the parts from p on are settled
-  abbrev After : ℕ → ℕ → Type 0
-  After p n = StaysMarked t sit ms n ⊎ ((i : Initialised t sit ms n) × (p ≤ i .by))
+  abbrev pub After : ℕ → ℕ → Type 0
+  After p n = StaysMarked ms ends n ⊎ ((q : ℕ) × (p ≤ q) × MarkedBy t sit ms ends q n)
 
   before-that : (p n : ℕ) → After (suc p) n → After p n
   before-that p n (inl k) = inl k
-  before-that p n (inr i) = inr (i .0, omega (arith, i .1))
+  before-that p n (inr (q, l, k)) = inr (q, omega arith, k)
 
   after-turn : (p n : ℕ) → p ≤ n → p < length ms → (p < n → Marked (later t sit ms p) (n - suc p) → After (suc p) n) → Marked (settledFrom t sit p (drop p ms)) (n - p) → After p n
-  after-turn p n a l ih h = go (turn p l)
+  after-turn p n a l ih d = go (turn p l)
     where
-      own : (m : ℕ) → (isMark m ≡ true → StaysMarked t sit ms p) → ((p ≡ n) × (isMark m ≡ true)) ⊎ ((p < n) × Marked (later t sit ms p) (n - suc p)) → After p n
-      own m k (inl e) = inl (subst (StaysMarked t sit ms) (e .0) (k (e .1)))
+      own : (m : ℕ) → (isMark m ≡ true → StaysMarked ms ends p) → ((p ≡ n) × (isMark m ≡ true)) ⊎ ((p < n) × Marked (later t sit ms p) (n - suc p)) → After p n
+      own m k (inl e) = inl (subst (StaysMarked ms ends) (e .0) (k (e .1)))
       own m k (inr e) = before-that p n (ih (e .0) (e .1))
 
-      begins : (m x : ℕ) → Initialises t sit ms p x → (isMark m ≡ true → StaysMarked t sit ms p) → ((x ≤ n) × (n < endAt t x) × Marked (initialMarks t x) (n - x)) ⊎ Marked (m ∷ later t sit ms p) (n - p) → After p n
-      begins m x i k (inl e) = inr (record { by = p; at = x; initialises = i; from = e .0; before = e .1; marked = e .2 }, omega arith)
-      begins m x i k (inr e) = own m k (cons-marked m (later t sit ms p) p n a e)
+      begins : (m x : ℕ) → Initialises t sit ms ends p x → x < endAt t x → (isMark m ≡ true → StaysMarked ms ends p) → ((x ≤ n) × (n < endAt t x) × Marked (initialMarks t x) (n - x)) ⊎ Marked (m ∷ later t sit ms p) (n - p) → After p n
+      begins m x i b k (inl e) = inr (p, omega arith, (x, i, initialised-begun t h x b n (e .0) (e .1) .0 (e .2)))
+      begins m x i b k (inr e) = own m k (cons-marked m (later t sit ms p) p n a e)
 
       go : Turn p → After p n
       go (inl i) =
           let r = turn-initialises p (i .0) (i .1) in
           let b = reaches-parts p (i .0) (i .1) in
-          begins (r .0) (i .0) (i .1) (r .1) (begun-marked t (r .0 ∷ later t sit ms p) p (i .0) n a (b .0) (b .1) (rw (r .2) at h))
-      go (inr r) = own (r .0) (r .1) (cons-marked (r .0) (later t sit ms p) p n a (rw (r .2) at h))
+          begins (r .0) (i .0) (i .1) (b .1) (r .1) (begun-marked t (r .0 ∷ later t sit ms p) p (i .0) n a (b .0) (b .1) (rw (r .2) at d))
+      go (inr r) = own (r .0) (r .1) (cons-marked (r .0) (later t sit ms p) p n a (rw (r .2) at d))
 
   after-from : (k p : ℕ) → p + k ≡ length ms → (n : ℕ) → p ≤ n → Marked (settledFrom t sit p (drop p ms)) (n - p) → After p n
   after-from zero p e n a m = absurd (omega (arith, marked-length (settledFrom t sit p (drop p ms)) (n - p) m, length-settled t sit p (drop p ms), length-drop p ms))
   after-from (suc k) p e n a m = after-turn p n a (omega arith) (λ b. after-from k (suc p) (omega arith) n b) m
-
-  -- a part marked after the settling was marked and did not end, or it was initialised
-  pub marked-after : (n : ℕ) → Marked (settledFrom t sit 0 ms) n → StaysMarked t sit ms n ⊎ Initialised t sit ms n
-  marked-after n m = ⊎-map (λ k. k) (λ i. i .0) (after-from (length ms) 0 (omega arith) n (omega arith) (rw sub-zero m))
-
-  -- "Newly marked parts": a part marked after the settling and not before was initialised
-  pub newly-marked : (n : ℕ) → Marked (settledFrom t sit 0 ms) n → isMark (getD ms n 0) ≡ false → Initialised t sit ms n
-  newly-marked n m b = go (marked-after n m)
-    where
-      go : StaysMarked t sit ms n ⊎ Initialised t sit ms n → Initialised t sit ms n
-      go (inl k) = absurd (false≢true (sym b ∙ k .0))
-      go (inr i) = i
 
   module _ (phase : ℕ) (allowed : partsAllowed t phase 0 ms ≡ true) where
     part-allowed : (p : ℕ) → p < parts t → partAllowed t phase p (getD ms p 0) (drop (suc p) ms) ≡ true
@@ -310,7 +256,7 @@ module _ (t : List ℕ) (h : isTable t ≡ true) (sit : Situation) (ms : List �
       where
         go : (c : Bool) → isMark (getD ms u 0) ≡ c → Marked ms u
         go true e = e
-        go false e = absurd (false≢true (rw (e, inside-marked t ms u n a b m) at (part-allowed u l)))
+        go false e = absurd (false≢true (rw (e, inside-marked t ms u n (a, b) m) at (part-allowed u l)))
 
     -- "a marked SEQ [..] has exactly one marked child": nothing is marked in the next of a marked child
     next-unmarked : {n e p : ℕ} → Followed t n e p → p < parts t → Marked ms p → (y : ℕ) → nextAt t p ≤ y → y < endAt t (nextAt t p) → Marked ms y → ⊥
@@ -332,23 +278,23 @@ module _ (t : List ℕ) (h : isTable t ≡ true) (sit : Situation) (ms : List �
         start-marked (inr g) c = around-marked (nextAt t p) y c g b d
 
     -- in a part x that holds no mark before, and into which no part between p and x initialises, nothing is marked by the settling of the parts after p
-    none-there : (p x n : ℕ) → ((y : ℕ) → x ≤ y → y < endAt t x → Marked ms y → ⊥) → ((q y : ℕ) → p < q → q < x → Initialises t sit ms q y → endAt t y ≤ x) → After (suc p) n → x ≤ n → n < endAt t x → ⊥
+    none-there : (p x n : ℕ) → ((y : ℕ) → x ≤ y → y < endAt t x → Marked ms y → ⊥) → ((q y : ℕ) → p < q → q < x → Initialises t sit ms ends q y → endAt t y ≤ x) → After (suc p) n → x ≤ n → n < endAt t x → ⊥
     none-there p x n none low (inl k) b c = none n b c (k .0)
-    none-there p x n none low (inr k) b c = go (lower (i .by) x)
+    none-there p x n none low (inr (q, l, (y, i, g))) b c = go (lower q x)
       where
-        i : Initialised t sit ms n
-        i = k .0
-
-        go : (i .by < x) ⊎ (x ≤ i .by) → ⊥
-        go (inl g) = omega (arith, low (i .by) (i .at) (k .1) g (i .initialises), i .before)
-        go (inr g) = none (i .by) g (omega (arith, reaches-parts (i .by) (i .at) (i .initialises), i .from)) (by-marked (i .by) (i .at) (i .initialises))
+        go : (q < x) ⊎ (x ≤ q) → ⊥
+        go (inl d) = omega (arith, low q y l d i, spread q y n i g)
+        go (inr d) = none q d (omega (arith, spread q y n i g)) (by-marked q y i)
 
     -- such is a part that part p initialises: its marks go over no other
-    untouched : (p x n : ℕ) → Initialises t sit ms p x → p < n → After (suc p) n → Marked (later t sit ms p) (n - suc p) → x ≤ n → n < endAt t x → ⊥
+    untouched : (p x n : ℕ) → Initialises t sit ms ends p x → p < n → After (suc p) n → Marked (later t sit ms p) (n - suc p) → x ≤ n → n < endAt t x → ⊥
     untouched p x n (inl i) a k m b c = next (inside t h p l .next-is)
       where
+        own : Marked ms p
+        own = ends-marked t sit ms p (i .0)
+
         l : p < parts t
-        l = number-fits p (i .0 .0)
+        l = number-fits p own
 
         not-root : (p ≡ 0) ⊎ (0 < p) → 0 < p
         not-root (inl e) = absurd (i .2 (sym (i .1) ∙ rw e (root-next t h)))
@@ -364,15 +310,14 @@ module _ (t : List ℕ) (h : isTable t ≡ true) (sit : Situation) (ms : List �
         next (inr (inr z)) =
             let f = next-nested t h 0 p (inside-root t h p (not-root (eq-zero-or-pos p)) l) (z .after) (λ d. i .2 (sym (i .1) ∙ d)) in
             none-there p x n
-            (rw (← (i .1)) (next-unmarked f l (i .0 .0)))
+            (rw (← (i .1)) (next-unmarked f l own))
             (λ q y u v j. rw (← (i .1), z .next-end) (reaches-inside p q y j u (rw (← (i .1), z .next-end) at v) l))
             k b c
     untouched p x n (inr i) a k m b c =
-        let r = takes p x i in
-        let none : (y : ℕ) → p < y → y < endAt t p → Marked ms y → ⊥ = λ y u v d. false≢true (sym (takes-empty p x i) ∙ inside-marked t ms p y u v d) in
+        let r : (p < x) × (x < endAt t x) × (endAt t x ≤ endAt t p) = rw (i .1) at (takes-inside t h sit ms p (number-fits p (i .0 .0)) (i .0)) in
         none-there p x n
-        (λ y u v d. none y (omega (arith, r .0)) (omega (arith, r .2)) d)
-        (λ q y u v j. absurd (none q u (omega (arith, r .1, r .2)) (by-marked q y j)))
+        (λ y u v d. i .0 .2 y (omega (arith, r)) d)
+        (λ q y u v j. absurd (i .0 .2 q (omega (arith, r)) (by-marked q y j)))
         k b c
 
     -- a mark set by the settling of the parts after part p stays
@@ -392,44 +337,62 @@ module _ (t : List ℕ) (h : isTable t ≡ true) (sit : Situation) (ms : List �
         go : (p ≡ n) ⊎ (p < n) → Marked (settledFrom t sit p (drop p ms)) (n - p)
         go (inl e) =
             let z : n - p ≡ 0 = omega arith in
-            let own : StaysMarked t sit ms p = rw e k in
+            let own : StaysMarked ms ends p = rw e k in
             rw z (kept-own t h sit ms p (rw long at l) (own .0) (own .1))
         go (inr b) = stays-marked p n l b (inl k) (ih b (inl k))
-    marked-turn p n l a ih (inr k) = go (eq-or-lt-of-le (k .1))
+    marked-turn p n l a ih (inr (q, c, (x, i, g))) = go (eq-or-lt-of-le c)
       where
-        i : Initialised t sit ms n
-        i = k .0
-
-        own : Initialises t sit ms p (i .at) → Marked (settledFrom t sit p (drop p ms)) (n - p)
+        own : Initialises t sit ms ends p x → Marked (settledFrom t sit p (drop p ms)) (n - p)
         own j =
-            let r = turn-initialises p (i .at) j in
-            let b = reaches-parts p (i .at) j in
-            let d : n - p < suc (length (later t sit ms p)) = omega (arith, length-settled t sit (suc p) (drop (suc p) ms), length-drop (suc p) ms, i .before) in
-            rw (r .2, begun-in t (r .0 ∷ later t sit ms p) p (i .at) n a (b .0) (b .1) (i .from) (i .before) d) (i .marked)
+            let r = turn-initialises p x j in
+            let b = reaches-parts p x j in
+            let w = begun-within t h x (b .1) g in
+            let d : n - p < suc (length (later t sit ms p)) = omega (arith, length-settled t sit (suc p) (drop (suc p) ms), length-drop (suc p) ms, w, b) in
+            rw (r .2, begun-in t (r .0 ∷ later t sit ms p) p x n a (b .0) (b .1) (w .0) (w .1) d) (initialised-begun t h x (b .1) n (w .0) (w .1) .1 g)
 
-        go : (p ≡ i .by) ⊎ (p < i .by) → Marked (settledFrom t sit p (drop p ms)) (n - p)
-        go (inl e) = own (subst (λ q. Initialises t sit ms q (i .at)) (sym e) (i .initialises))
+        go : (p ≡ q) ⊎ (p < q) → Marked (settledFrom t sit p (drop p ms)) (n - p)
+        go (inl e) = own (subst (λ u. Initialises t sit ms ends u x) (sym e) i)
         go (inr b) =
-            let c : p < n = omega (arith, reaches-parts (i .by) (i .at) (i .initialises), i .from) in
-            stays-marked p n l c (inr (i, b)) (ih c (inr (i, b)))
+            let d : p < n = omega (arith, spread q x n i g) in
+            stays-marked p n l d (inr (q, b, (x, i, g))) (ih d (inr (q, b, (x, i, g))))
 
     marked-from : (k p : ℕ) → p + k ≡ length ms → (n : ℕ) → p ≤ n → After p n → Marked (settledFrom t sit p (drop p ms)) (n - p)
     marked-from zero p e n a (inl k) = absurd (omega (arith, marked-length ms n (k .0)))
-    marked-from zero p e n a (inr k) = absurd (omega (arith, marked-length ms (k .0 .by) (by-marked (k .0 .by) (k .0 .at) (k .0 .initialises)), k .1))
+    marked-from zero p e n a (inr (q, c, (x, i, g))) = absurd (omega (arith, marked-length ms q (by-marked q x i)))
     marked-from (suc k) p e n a c = marked-turn p n (omega arith) a (λ b. marked-from k (suc p) (omega arith) n b) c
 
     -- the parts marked after a settling are those that were marked and did not end, and those that were initialised
-    pub settled-marks : (n : ℕ) → Marked (settledFrom t sit 0 ms) n ↔ (StaysMarked t sit ms n ⊎ Initialised t sit ms n)
-    settled-marks n = (marked-after n, λ k. rw sub-zero at (marked-from (length ms) 0 (omega arith) n (omega arith) (⊎-map (λ i. i) (λ i. (i, omega arith)) k)))
+    pub settled-marks : (n : ℕ) → Marked (settledFrom t sit 0 ms) n ↔ (StaysMarked ms ends n ⊎ ((q : ℕ) × MarkedBy t sit ms ends q n))
+    settled-marks n = (
+      λ m. ⊎-map (λ k. k) (λ k. (k .0, k .2)) (after-from (length ms) 0 (omega arith) n (omega arith) (rw sub-zero m)),
+      λ k. rw sub-zero at (marked-from (length ms) 0 (omega arith) n (omega arith) (⊎-map (λ i. i) (λ i. (i .0, omega arith, i .1)) k)),
+    )
 
--- the same of an allowed record of a table
-pub record-settled-marks : (t r est : List ℕ) → isTable t ≡ true → recordAllowed t r ≡ true → (n : ℕ) → Marked (settledMarks t r est) n ↔ (StaysMarked t (situation t r est (lastTime r)) (marksIn t r) n ⊎ Initialised t (situation t r est (lastTime r)) (marksIn t r) n)
-unfolding recordAllowed
-record-settled-marks t r est h a =
-    let last : Bool = partsAllowed t (phaseOf r) 0 (marksIn t r) in
-    let fourth : Bool = rootAllowed (phaseOf r) (marksIn t r) && last in
-    let third : Bool = clocksAllowed t r && fourth in
-    let second : Bool = valuesAllowed t r && third in
-    let b = and-right (restZero t r) second (and-right (leb recordLength (length r)) (restZero t r && second) a) in
-    let c = and-right (rootAllowed (phaseOf r) (marksIn t r)) last (and-right (clocksAllowed t r) fourth (and-right (valuesAllowed t r) third b)) in
-    settled-marks t h (situation t r est (lastTime r)) (marksIn t r) (length-bytes r marksPlace (parts t)) (phaseOf r) c
+    -- the marks of the parts after part p once these are settled
+    later-marked : (p n : ℕ) → p < parts t → p < n → (Marked (later t sit ms p) (n - suc p) ↔ After (suc p) n)
+    later-marked p n l a =
+        let k : suc p + (parts t - suc p) ≡ length ms = omega arith in
+        (after-from (parts t - suc p) (suc p) k n a, marked-from (parts t - suc p) (suc p) k n a)
+
+    -- a part into which part p initialises is not marked by the settling of the parts after p
+    pub initialised-apart : (p x n : ℕ) → Initialises t sit ms ends p x → p < n → After (suc p) n → x ≤ n → n < endAt t x → ⊥
+    initialised-apart p x n i a k = untouched p x n i a k (later-marked p n (number-fits p (by-marked p x i)) a .1 k)
+
+    -- "marked inside after this"
+    pub inside-after : (p : ℕ) → p < parts t → insideAfter t sit ms p ≡ true → (n : ℕ) × MarkedInside t sit ms ends p n
+    inside-after p l e =
+        let (i, a, m) = any-found (later t sit ms p) (insideOf t p) e in
+        let n : ℕ = suc p + i in
+        let k : i ≡ n - suc p = omega arith in
+        (n, ((omega arith, omega arith), by n (omega arith) (later-marked p n l (omega arith) .0 (rw k at m))))
+      where
+        by : (n : ℕ) → n < endAt t p → After (suc p) n → StaysMarked ms ends n ⊎ ((q : ℕ) × Inside t p q × MarkedBy t sit ms ends q n)
+        by n b (inl k) = inl k
+        by n b (inr (q, c, (x, i, g))) = inr (q, (c, omega (arith, spread q x n i g)), (x, i, g))
+
+    pub after-inside : (p n : ℕ) → p < parts t → MarkedInside t sit ms ends p n → insideAfter t sit ms p ≡ true
+    after-inside p n l (i, k) = any-at (later t sit ms p) (insideOf t p) (n - suc p) (omega (arith, i)) (later-marked p n l (i .0) .1 (by k))
+      where
+        by : StaysMarked ms ends n ⊎ ((q : ℕ) × Inside t p q × MarkedBy t sit ms ends q n) → After (suc p) n
+        by (inl c) = inl c
+        by (inr (q, c, g)) = inr (q, c .0, g)

@@ -29,7 +29,7 @@ use Rattle.meaning.proofs.Lies.{Lies, LieIn, own-row, own-kind, children-lie, f
 more-than-zero : (x : ℕ) → isZero (suc x) ≡ false
 more-than-zero x = ne-eqb (suc x) 0 (λ e. omega arith)
 
-is-mark : (x : ℕ) → (isMark x ≡ true) ↔ (0 < x)
+pub is-mark : (x : ℕ) → (isMark x ≡ true) ↔ (0 < x)
 is-mark zero = (λ h. absurd (false≢true h), λ l. absurd (omega arith))
 is-mark (suc x) = (λ h. omega arith, λ l. rw (more-than-zero x))
 

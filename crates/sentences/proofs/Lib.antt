@@ -12,5 +12,6 @@ pub mod TableRows
 pub mod Conditions
 pub mod RoundTrip
 pub mod Instead
+pub mod Endings
 pub mod ZeroOrOne
 pub mod Stepping

@@ -3,38 +3,44 @@ use Prim.Native.Nat.{ℕ, _+_, _-_, _≤_, _<_}
 use native.Mathlib.Nat.{sub-zero, zero-add}
 use native.Mathlib.Omega.{arith}
 use mathlib.Core.Path.{_≡_, sym, ap, _∙_}
-use mathlib.Core.Bool.{Bool, true, _&&_}
+use mathlib.Core.Bool.{Bool, true, _&&_, false≢true}
 use mathlib.Core.Logic.{_↔_, _⊎_, inl, inr}
 use mathlib.Core.List.{List}
+use lib.Dec.{leb}
 use lib.ListN.{length, getD, drop, getD-replicate, List·getD-eq-default}
 use lib.Seq.{length-sets, getD-drop}
-use borrow.Author.Tests.{eqb-true, eq-eqb}
-use Rattle.base.proofs.Lists.{and-left, and-right}
+use borrow.Author.Tests.{eqb-true, eq-eqb, leb-true}
+use Rattle.base.specs.Lists.{all}
+use Rattle.base.proofs.Facts.{at-most, all-facts}
+use Rattle.base.proofs.Lists.{and-left, and-right, each-passes}
 use Rattle.base.proofs.Stores.{length-bytes, getD-bytes}
 use Rattle.meaning.specs.declared.Entry.{Entry}
 use Rattle.meaning.specs.declared.Form.the-variants.{Table}
-use Rattle.meaning.specs.Sizes.{timeLimit}
+use Rattle.meaning.specs.Sizes.{timeLimit, byteValues}
 use Rattle.meaning.specs.Kinds.{MAINTAIN, kindOf, numberOf}
-use Rattle.meaning.specs.Program.{parts, variables, entryAt}
+use Rattle.meaning.specs.Program.{parts, variables, clocks, entryAt}
 use Rattle.meaning.specs.Table.{kindAt, operandOf, endAt, Inside, isTable}
 use Rattle.meaning.specs.Conditions.{Situation, violated}
-use Rattle.meaning.specs.Record.{estimatePlace, startedPlace, startsPlace, marksPlace, recordLength, estimateIn, marksIn, isMark, restZero, recordAllowed, waiting}
-use Rattle.meaning.specs.Cycle.{initialMarks, isKind, breaks, checkedFrom, situation, beginRefusal, begunInto, offeredGoals, offerRefusal, offeredInto, goalsInto}
+use Rattle.meaning.specs.Record.{estimatePlace, startedPlace, startsPlace, marksPlace, recordLength, phaseOf, lastTime, estimateIn, startedIn, startsIn, marksIn, isMark, restZero, valuesAllowed, clocksAllowed, rootAllowed, partsAllowed, recordAllowed, waiting, finished}
+use Rattle.meaning.specs.Cycle.{initialMarks, isKind, breaks, checkedFrom, situation, beginRefusal, begunInto, offeredGoals, offerRefusal, offeredInto, goalsInto, settleRefusal, settledInto, startingLeaves, settledFlags}
 use Rattle.meaning.proofs.Lies.{own-row, own-kind}
 use Rattle.meaning.proofs.Nesting.{lower, at, outer-part}
-use Rattle.meaning.proofs.Refusals.{offer-tests, goal-bytes-into}
+use Rattle.meaning.proofs.Refusals.{offer-tests, goal-bytes-into, settle-tests}
 use Rattle.meaning.proofs.Tables.{root-there, root-end}
-use Rattle.meaning.proofs.Records.{length-root, begin-tests, begun-fits, begun-bytes, rest-zero}
+use Rattle.meaning.proofs.Records.{length-root, begin-tests, begun-fits, begun-bytes, rest-zero, flags-small}
 use Rattle.sentences.specs.Marks.{Marked, Flags}
 use Rattle.sentences.specs.Fields.{Spare}
-use Rattle.sentences.specs.Stepping.{BegunWith, BeginningSteps, Broken, OfferSteps}
+use Rattle.sentences.specs.Stepping.{BegunWith, BeginningSteps, Broken, OfferSteps, SettlingSteps}
 use Rattle.sentences.proofs.Initialised.{begun-within, initialised-begun, begun-record}
-use Rattle.sentences.proofs.AllowedRecords.{rest-right, exactly-allowed}
-use Rattle.sentences.proofs.Settlings.{marked-length}
-use Rattle.sentences.proofs.ZeroOrOne.{flags-initial, flags-checked}
+use Rattle.sentences.proofs.AllowedRecords.{is-mark, rest-right, exactly-allowed}
+use Rattle.sentences.proofs.Settlings.{endsAt, marked-length, root-ends}
+use Rattle.sentences.proofs.ZeroOrOne.{flags-initial, flags-checked, flags-settled}
 use Rattle.sentences.proofs.Checked.{offer-marks}
 use Rattle.sentences.proofs.GoalBytes.{no-goal, goal-agreed, goal-contested}
-use Rattle.sentences.proofs.RecordFields.{offered-record, offered-spare, offered-length}
+use Rattle.sentences.proofs.RecordFields.{offered-record, offered-spare, offered-length, settled-record, settled-spare, settled-length}
+use Rattle.sentences.proofs.ClockStarts.{clock-flag, clock-kept as kept, clock-started as started, clock-unstarted as unstarted}
+use Rattle.sentences.proofs.AfterSettling.{settled-marks}
+use Rattle.sentences.proofs.Endings.{settling-endings}
 
 -- bytes that stand from a place on, one by one
 further : (n : ℕ) (r s : List ℕ) → drop n s ≡ drop n r → (i : ℕ) → n ≤ i → getD s i 0 ≡ getD r i 0
@@ -119,15 +125,28 @@ checked-marks t h sit ms p =
       λ m. marks .1 (m .0, λ q i b. m .1 q i (breaks-broken t h sit ms q b)),
     )
 
+-- bytes that are each 0 or 1
+small-flags : (l : List ℕ) → all (λ b. leb b 1) l ≡ true → Flags l
+small-flags l h p = go (lower p (length l))
+  where
+    go : (p < length l) ⊎ (length l ≤ p) → getD l p 0 ≤ 1
+    go (inl a) = leb-true (getD l p 0) 1 (each-passes (λ b. leb b 1) l 0 h p a)
+    go (inr a) = rw (List·getD-eq-default l 0 a) (omega arith)
+
 -- the marks of an allowed record
 record-flags : (t r : List ℕ) → recordAllowed t r ≡ true → Flags (marksIn t r)
-record-flags t r h p = go (lower p (parts t))
-  where
-    go : (p < parts t) ⊎ (parts t ≤ p) → getD (marksIn t r) p 0 ≤ 1
-    go (inl l) = exactly-allowed t r .0 h .marks-named p l
-    go (inr l) =
-        let d : length (marksIn t r) ≤ p = rw length-bytes l in
-        rw (List·getD-eq-default (marksIn t r) 0 d) (omega arith)
+record-flags t r h =
+    small-flags (marksIn t r) (all-facts (λ b. leb b 1) (λ x. x ≤ 1) (at-most 1) (marksIn t r) (parts t) (length-bytes r marksPlace (parts t)) .1 (exactly-allowed t r .0 h .marks-named))
+
+parts-allowed : (t r : List ℕ) → recordAllowed t r ≡ true → partsAllowed t (phaseOf r) 0 (marksIn t r) ≡ true
+unfolding recordAllowed
+parts-allowed t r h =
+    let last : Bool = partsAllowed t (phaseOf r) 0 (marksIn t r) in
+    let fourth : Bool = rootAllowed (phaseOf r) (marksIn t r) && last in
+    let third : Bool = clocksAllowed t r && fourth in
+    let second : Bool = valuesAllowed t r && third in
+    let b = and-right (restZero t r) second (and-right (leb recordLength (length r)) (restZero t r && second) h) in
+    and-right (rootAllowed (phaseOf r) (marksIn t r)) last (and-right (clocksAllowed t r) fourth (and-right (valuesAllowed t r) third b))
 
 module _ (t r : List ℕ) (time : ℕ) (goals : List ℕ) (h : offerRefusal t r time (length goals) ≡ 0) where
   goals-as-long : length (goalsInto t r time goals) ≡ length goals
@@ -158,4 +177,36 @@ module _ (t r : List ℕ) (time : ℕ) (goals : List ℕ) (h : offerRefusal t r 
         clocks-kept = (f .started-is, f .starts-are);
         offer-spare = offered-spare t r time room h;
         offer-length = offered-length t r time room h;
+      }
+
+module _ (t r est : List ℕ) (h : settleRefusal t r est ≡ 0) where
+  root-runs : Marked (marksIn t r) 0
+  root-runs =
+      let a = exactly-allowed t r .0 (settle-tests t r est h .1 .0) in
+      is-mark (getD (marksIn t r) 0 0) .1 (a .root-marked (λ e. false≢true (rw (eq-eqb (phaseOf r) finished e) at (settle-tests t r est h .1 .1 .0))))
+
+  -- a time is read back where the record is one of bytes
+  pub settling-steps : ((i : ℕ) → getD r i 0 < byteValues) → SettlingSteps t r est (settledInto t r est)
+  settling-steps bytes =
+      let table : isTable t ≡ true = settle-tests t r est h .0 in
+      let sit : Situation = situation t r est (lastTime r) in
+      let ms : List ℕ = marksIn t r in
+      let whole : length ms ≡ parts t = length-bytes r marksPlace (parts t) in
+      let allowed = parts-allowed t r (settle-tests t r est h .1 .0) in
+      let f = settled-record t r est h bytes in
+      record {
+        ends = endsAt t sit ms;
+        endings = settling-endings t table sit ms whole (phaseOf r) allowed;
+        marks-settled = rw (f .marks-are) (settled-marks t table sit ms whole (phaseOf r) allowed);
+        settled-flags = rw (f .marks-are) (flags-settled t sit ms 0);
+        clock-flags = λ c l. rw (f .started-is) (clock-flag t ms (startedIn t r) (startsIn t r) (lastTime r) c l);
+        clock-kept = λ c l. rw (f .starts-are) (kept t ms (startedIn t r) (startsIn t r) (lastTime r) c l);
+        clock-starts = λ c l. rw (f .started-is, f .starts-are) (started t ms (startedIn t r) (startsIn t r) (lastTime r) c l);
+        clock-unstarted = λ c l. rw (f .started-is, f .starts-are) (unstarted t ms (startedIn t r) (startsIn t r) (lastTime r) c l);
+        started-flags = rw (f .started-is) (small-flags (settledFlags t r) (flags-small (clocks t) (startingLeaves t r) (startedIn t r)));
+        phase-settled = f .phase-is ∙ rw (root-ends t table sit ms root-runs);
+        estimate-stored = f .estimate-is;
+        time-kept = f .time-is;
+        settled-spare = settled-spare t r est h;
+        settled-length = settled-length t r est h;
       }
