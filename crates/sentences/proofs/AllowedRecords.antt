@@ -419,6 +419,17 @@ module _ (t r : List ℕ) where
             ),
       )
 
+-- the last of the tests
+pub parts-allowed : (t r : List ℕ) → recordAllowed t r ≡ true → partsAllowed t (phaseOf r) 0 (marksIn t r) ≡ true
+unfolding recordAllowed
+parts-allowed t r h =
+    let last : Bool = partsAllowed t (phaseOf r) 0 (marksIn t r) in
+    let fourth : Bool = rootAllowed (phaseOf r) (marksIn t r) && last in
+    let third : Bool = clocksAllowed t r && fourth in
+    let second : Bool = valuesAllowed t r && third in
+    let b = and-right (restZero t r) second (and-right (leb recordLength (length r)) (restZero t r && second) h) in
+    and-right (rootAllowed (phaseOf r) (marksIn t r)) last (and-right (clocksAllowed t r) fourth (and-right (valuesAllowed t r) third b))
+
 -- each part of a table lies there
 abbrev Lying : List ℕ → ℕ → Type 0
 Lying t n = (p : Part) × (q : ℕ) × (x : ℕ) × Lies t p n q x

@@ -19,7 +19,7 @@ use Rattle.meaning.specs.Cycle.{isLeaf}
 use Rattle.meaning.proofs.Lies.{Lies, own-row, own-kind}
 use Rattle.meaning.proofs.Nesting.{at}
 use Rattle.sentences.specs.Marks.{Marked, Deciding}
-use Rattle.sentences.specs.Stepping.{MarkedInside, Endings}
+use Rattle.sentences.specs.Stepping.{MarkedBy, MarkedInside, Endings}
 use Rattle.sentences.proofs.Settlings.{insideBefore, insideAfter, endsAt, Undeciding, marked-length, deciding-empty, empty-deciding, goal-ends, wait-ends, start-ends, composite-ends, deciding-stays}
 use Rattle.sentences.proofs.AfterSettling.{inside-after, after-inside}
 
@@ -91,11 +91,15 @@ module _ (t : List ℕ) (h : isTable t ≡ true) (sit : Situation) (ms : List �
 
 -- the sentences leave no choice: two answers to which parts end are the same
 module _ (t : List ℕ) (h : isTable t ≡ true) (sit : Situation) (ms : List ℕ) (long : length ms ≡ parts t) where
-  -- what is marked inside a part follows from which parts inside it end
+  -- what a part marks follows from whether it ends
+  pub same-by : (e f : ℕ → Bool) (q n : ℕ) → e q ≡ f q → MarkedBy t sit ms e q n → MarkedBy t sit ms f q n
+  same-by e f q n same (x, inl (d, a, b), g) = (x, inl (sym same ∙ d, a, b), g)
+  same-by e f q n same (x, inr d, g) = (x, inr d, g)
+
+  -- and what is marked inside a part from which parts inside it end
   same-inside : (e f : ℕ → Bool) (p : ℕ) → ((q : ℕ) → p < q → e q ≡ f q) → (n : ℕ) → MarkedInside t sit ms e p n → MarkedInside t sit ms f p n
   same-inside e f p same n (i, inl (m, d)) = (i, inl (m, sym (same n (i .0)) ∙ d))
-  same-inside e f p same n (i, inr (q, j, (x, inl (d, a, b), g))) = (i, inr (q, j, (x, inl (sym (same q (j .0)) ∙ d, a, b), g)))
-  same-inside e f p same n (i, inr (q, j, (x, inr d, g))) = (i, inr (q, j, (x, inr d, g)))
+  same-inside e f p same n (i, inr (q, j, g)) = (i, inr (q, j, same-by e f q n (same q (j .0)) g))
 
   module _ (e f : ℕ → Bool) (a : Endings t sit ms e) (b : Endings t sit ms f) where
     same-ends : (p : ℕ) → Marked ms p → ((q : ℕ) → p < q → e q ≡ f q) → Judged t ms p → e p ≡ f p

@@ -13,5 +13,6 @@ pub mod Conditions
 pub mod RoundTrip
 pub mod Instead
 pub mod Endings
+pub mod DecidingAfter
 pub mod ZeroOrOne
 pub mod Stepping

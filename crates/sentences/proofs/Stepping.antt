@@ -21,7 +21,7 @@ use Rattle.meaning.specs.Kinds.{MAINTAIN, kindOf, numberOf}
 use Rattle.meaning.specs.Program.{parts, variables, clocks, entryAt}
 use Rattle.meaning.specs.Table.{kindAt, operandOf, endAt, Inside, isTable}
 use Rattle.meaning.specs.Conditions.{Situation, violated}
-use Rattle.meaning.specs.Record.{estimatePlace, startedPlace, startsPlace, marksPlace, recordLength, phaseOf, lastTime, estimateIn, startedIn, startsIn, marksIn, isMark, restZero, valuesAllowed, clocksAllowed, rootAllowed, partsAllowed, recordAllowed, waiting, finished}
+use Rattle.meaning.specs.Record.{estimatePlace, startedPlace, startsPlace, marksPlace, recordLength, phaseOf, lastTime, estimateIn, startedIn, startsIn, marksIn, isMark, restZero, recordAllowed, waiting, finished}
 use Rattle.meaning.specs.Cycle.{initialMarks, isKind, breaks, checkedFrom, situation, beginRefusal, begunInto, offeredGoals, offerRefusal, offeredInto, goalsInto, settleRefusal, settledInto, startingLeaves, settledFlags}
 use Rattle.meaning.proofs.Lies.{own-row, own-kind}
 use Rattle.meaning.proofs.Nesting.{lower, at, outer-part}
@@ -32,7 +32,7 @@ use Rattle.sentences.specs.Marks.{Marked, Flags}
 use Rattle.sentences.specs.Fields.{Spare}
 use Rattle.sentences.specs.Stepping.{BegunWith, BeginningSteps, Broken, OfferSteps, SettlingSteps}
 use Rattle.sentences.proofs.Initialised.{begun-within, initialised-begun, begun-record}
-use Rattle.sentences.proofs.AllowedRecords.{is-mark, rest-right, exactly-allowed}
+use Rattle.sentences.proofs.AllowedRecords.{is-mark, rest-right, exactly-allowed, parts-allowed}
 use Rattle.sentences.proofs.Settlings.{endsAt, marked-length, root-ends}
 use Rattle.sentences.proofs.ZeroOrOne.{flags-initial, flags-checked, flags-settled}
 use Rattle.sentences.proofs.Checked.{offer-marks}
@@ -137,16 +137,6 @@ small-flags l h p = go (lower p (length l))
 record-flags : (t r : List ℕ) → recordAllowed t r ≡ true → Flags (marksIn t r)
 record-flags t r h =
     small-flags (marksIn t r) (all-facts (λ b. leb b 1) (λ x. x ≤ 1) (at-most 1) (marksIn t r) (parts t) (length-bytes r marksPlace (parts t)) .1 (exactly-allowed t r .0 h .marks-named))
-
-parts-allowed : (t r : List ℕ) → recordAllowed t r ≡ true → partsAllowed t (phaseOf r) 0 (marksIn t r) ≡ true
-unfolding recordAllowed
-parts-allowed t r h =
-    let last : Bool = partsAllowed t (phaseOf r) 0 (marksIn t r) in
-    let fourth : Bool = rootAllowed (phaseOf r) (marksIn t r) && last in
-    let third : Bool = clocksAllowed t r && fourth in
-    let second : Bool = valuesAllowed t r && third in
-    let b = and-right (restZero t r) second (and-right (leb recordLength (length r)) (restZero t r && second) h) in
-    and-right (rootAllowed (phaseOf r) (marksIn t r)) last (and-right (clocksAllowed t r) fourth (and-right (valuesAllowed t r) third b))
 
 module _ (t r : List ℕ) (time : ℕ) (goals : List ℕ) (h : offerRefusal t r time (length goals) ≡ 0) where
   goals-as-long : length (goalsInto t r time goals) ≡ length goals
