@@ -86,7 +86,10 @@ module _ (t : List ℕ) (table : isTable t ≡ true) where
       let x = table-held t table in
       (x .0, x .1 .parts-are, subst (λ s. Lies s (x .0) 0 noPart noPart) (sym (x .2)) (root-lies (variables t) (clocks t) (x .0) (x .1 .within)))
 
-  -- the root has no next
+  -- the root has no parent and no next
+  pub root-parent : parentAt t 0 ≡ noPart
+  root-parent = own-row (root .2) .parent-is
+
   pub root-next : nextAt t 0 ≡ noPart
   root-next = own-row (root .2) .next-is
 

@@ -151,7 +151,7 @@ module _ (t r : List ℕ) where
   length-marks = length-bytes r marksPlace (parts t)
 
   -- a part that is marked is a part of the program
-  marked-part : (q : ℕ) → PartMarked t r q → q < parts t
+  pub marked-part : (q : ℕ) → PartMarked t r q → q < parts t
   marked-part q h = omega (arith, getD-inside (marksIn t r) q h, length-marks)
 
   module _ (p : ℕ) where
@@ -267,7 +267,7 @@ module _ (t r : List ℕ) where
         from h i l = inner-mark t r p i l ∙ h (suc p + i) (omega arith) (omega (arith, length-inner t r p))
 
     -- what document 01 asks of the children of a marked part, kind by kind
-    abbrev Children : Kind → Type 0
+    abbrev pub Children : Kind → Type 0
     Children UNKNOWN = Unit {0}
     Children GOAL = Unit {0}
     Children START = Unit {0}
@@ -278,7 +278,7 @@ module _ (t r : List ℕ) where
     Children CHOICE = NoTwoChildren t r p
     Children REPEAT = OneChild t r p
 
-    children-right : (k : Kind) → (childrenAllowed (phaseOf r) k (childCount t r p) ≡ true) ↔ Children k
+    pub children-right : (k : Kind) → (childrenAllowed (phaseOf r) k (childCount t r p) ≡ true) ↔ Children k
     unfolding childrenAllowed
     children-right UNKNOWN = (λ h. tt, λ h. refl)
     children-right GOAL = (λ h. tt, λ h. refl)
@@ -298,7 +298,7 @@ module _ (t r : List ℕ) where
         (by-mark (getD (marksIn t r) p 0) (childrenAllowed (phaseOf r) (kindAt t p) (childCount t r p)) (not (any isMark (inner t r p))))
         (λ h. (λ m. children-right (kindAt t p) .0 (h .0 m), λ e. blank-inside .0 (h .1 e)), λ h. (λ m. children-right (kindAt t p) .1 (h .0 m), λ e. blank-inside .1 (h .1 e)))
 
-  parts-right : (partsAllowed t (phaseOf r) 0 (marksIn t r) ≡ true)
+  pub parts-right : (partsAllowed t (phaseOf r) 0 (marksIn t r) ≡ true)
       ↔ ((p : ℕ) → p < parts t → (PartMarked t r p → Children p (kindAt t p)) × (PartUnmarked t r p → (q : ℕ) → p < q → q < endAt t p → PartUnmarked t r q))
   parts-right =
       Iff·trans (parts-index (phaseOf r) 0 (marksIn t r)) (

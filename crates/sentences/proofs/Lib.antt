@@ -16,3 +16,4 @@ pub mod Endings
 pub mod DecidingAfter
 pub mod ZeroOrOne
 pub mod Stepping
+pub mod InsteadInRuns
