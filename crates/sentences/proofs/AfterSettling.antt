@@ -15,7 +15,7 @@ use Rattle.base.proofs.Stores.{getD-sets-in, getD-sets-out}
 use Rattle.meaning.specs.Sizes.{noPart}
 use Rattle.meaning.specs.Tree.{Part, goal, start, wait, seq, par, maintain, choice, repeat}
 use Rattle.meaning.specs.Program.{parts}
-use Rattle.meaning.specs.Table.{endAt, parentAt, nextAt, Inside, insideOf, isTable}
+use Rattle.meaning.specs.Table.{endAt, parentAt, nextAt, insideOf, isTable}
 use Rattle.meaning.specs.Conditions.{Situation}
 use Rattle.meaning.specs.Record.{isMark, markedChildren, childrenAllowed, partAllowed, partsAllowed}
 use Rattle.meaning.specs.declared.Transition.{Transition}
@@ -384,15 +384,15 @@ module _ (t : List ℕ) (h : isTable t ≡ true) (sit : Situation) (ms : List �
         let (i, a, m) = any-found (later t sit ms p) (insideOf t p) e in
         let n : ℕ = suc p + i in
         let k : i ≡ n - suc p = omega arith in
-        (n, ((omega arith, omega arith), by n (omega arith) (later-marked p n l (omega arith) .0 (rw k at m))))
+        (n, by n (omega arith) (omega arith) (later-marked p n l (omega arith) .0 (rw k at m)))
       where
-        by : (n : ℕ) → n < endAt t p → After (suc p) n → StaysMarked ms ends n ⊎ ((q : ℕ) × Inside t p q × MarkedBy t sit ms ends q n)
-        by n b (inl k) = inl k
-        by n b (inr (q, c, (x, i, g))) = inr (q, (c, omega (arith, spread q x n i g)), (x, i, g))
+        by : (n : ℕ) → p < n → n < endAt t p → After (suc p) n → MarkedInside t sit ms ends p n
+        by n a b (inl k) = ((omega arith, omega arith), inl k)
+        by n a b (inr (q, c, (x, i, g))) = ((omega arith, omega arith), inr (q, (omega arith, omega (arith, spread q x n i g)), (x, i, g)))
 
     pub after-inside : (p n : ℕ) → p < parts t → MarkedInside t sit ms ends p n → insideAfter t sit ms p ≡ true
-    after-inside p n l (i, k) = any-at (later t sit ms p) (insideOf t p) (n - suc p) (omega (arith, i)) (later-marked p n l (i .0) .1 (by k))
+    after-inside p n l k = any-at (later t sit ms p) (insideOf t p) (n - suc p) (omega (arith, k .0)) (later-marked p n l (k .0 .0) .1 (by k))
       where
-        by : StaysMarked ms ends n ⊎ ((q : ℕ) × Inside t p q × MarkedBy t sit ms ends q n) → After (suc p) n
-        by (inl c) = inl c
-        by (inr (q, c, g)) = inr (q, c .0, g)
+        by : MarkedInside t sit ms ends p n → After (suc p) n
+        by (i, inl c) = inl c
+        by (i, inr (q, j, g)) = inr (q, j .0, g)

@@ -3,7 +3,7 @@ use Prim.Native.Nat.{ℕ, _+_, _-_, _≤_, _<_}
 use native.Mathlib.Nat.{sub-zero, zero-add}
 use native.Mathlib.Omega.{arith}
 use mathlib.Core.Path.{_≡_, sym, ap, _∙_}
-use mathlib.Core.Bool.{Bool, true, _&&_, false≢true}
+use mathlib.Core.Bool.{true, _&&_, and-eq-true-iff, false≢true}
 use mathlib.Core.Logic.{_↔_, _⊎_, inl, inr}
 use mathlib.Core.List.{List}
 use lib.Dec.{leb}
@@ -12,7 +12,7 @@ use lib.Seq.{length-sets, getD-drop}
 use borrow.Author.Tests.{eqb-true, eq-eqb, leb-true}
 use Rattle.base.specs.Lists.{all}
 use Rattle.base.proofs.Facts.{at-most, all-facts}
-use Rattle.base.proofs.Lists.{and-left, and-right, each-passes}
+use Rattle.base.proofs.Lists.{each-passes}
 use Rattle.base.proofs.Stores.{length-bytes, getD-bytes}
 use Rattle.meaning.specs.declared.Entry.{Entry}
 use Rattle.meaning.specs.declared.Form.the-variants.{Table}
@@ -106,16 +106,17 @@ kind-byte t h p l =
 
 module _ (t : List ℕ) (h : isTable t ≡ true) (sit : Situation) (ms : List ℕ) (p : ℕ) where
   -- "a marked MAINTAIN whose condition is violated"
+  broken-breaks : p < parts t → Broken t sit ms p → breaks t sit p (getD ms p 0) ≡ true
+  broken-breaks l (m, k, v) =
+      let is-maintain = eq-eqb (entryAt Table t p .kind) (numberOf MAINTAIN) (kind-byte t h p l ∙ ap numberOf k) in
+      and-eq-true-iff (isMark (getD ms p 0)) _ .1 (m, and-eq-true-iff (isKind MAINTAIN (entryAt Table t p)) (violated sit (operandOf t p)) .1 (is-maintain, v))
+
   breaks-broken : breaks t sit p (getD ms p 0) ≡ true → Broken t sit ms p
   unfolding kindOf numberOf
   breaks-broken b =
-      let e : Entry = entryAt Table t p in
-      let rest : Bool = isKind MAINTAIN e && violated sit (operandOf t p) in
-      let c = and-right (isMark (getD ms p 0)) rest b in
-      (and-left (isMark (getD ms p 0)) rest b, ap kindOf (eqb-true (e .kind) (numberOf MAINTAIN) (and-left (isKind MAINTAIN e) (violated sit (operandOf t p)) c)), and-right (isKind MAINTAIN e) (violated sit (operandOf t p)) c)
-
-  broken-breaks : p < parts t → Broken t sit ms p → breaks t sit p (getD ms p 0) ≡ true
-  broken-breaks l b = rw (b .0, eq-eqb (entryAt Table t p .kind) (numberOf MAINTAIN) (kind-byte t h p l ∙ ap numberOf (b .1)), b .2)
+      let (m, c) = and-eq-true-iff (isMark (getD ms p 0)) (isKind MAINTAIN (entryAt Table t p) && violated sit (operandOf t p)) .0 b in
+      let (k, v) = and-eq-true-iff (isKind MAINTAIN (entryAt Table t p)) (violated sit (operandOf t p)) .0 c in
+      (m, ap kindOf (eqb-true (entryAt Table t p .kind) (numberOf MAINTAIN) k), v)
 
 -- "loses every mark inside it and stays marked"
 checked-marks : (t : List ℕ) → isTable t ≡ true → (sit : Situation) (ms : List ℕ) (p : ℕ) → Marked (checkedFrom t sit 0 ms 0) p ↔ (Marked ms p × ((q : ℕ) → Inside t q p → Broken t sit ms q → ⊥))
