@@ -17,3 +17,4 @@ pub mod DecidingAfter
 pub mod ZeroOrOne
 pub mod Stepping
 pub mod InsteadInRuns
+pub mod OneTable

@@ -43,17 +43,17 @@ own-next CHOICE p e b h n l = absurd (n (sym h))
 own-next REPEAT p e b h n l = refl
 
 -- how many of n numbers from i on pass a test: those of two runs together, and none where none passes
-abbrev counted : (ℕ → Bool) → ℕ → ℕ → ℕ
+abbrev pub counted : (ℕ → Bool) → ℕ → ℕ → ℕ
 counted f i n = sum (tabulate (λ q. flag (f q)) i n)
 
-counted-both : (f : ℕ → Bool) (i m n : ℕ) → counted f i (m + n) ≡ counted f i m + counted f (i + m) n
+pub counted-both : (f : ℕ → Bool) (i m n : ℕ) → counted f i (m + n) ≡ counted f i m + counted f (i + m) n
 counted-both f i zero n = rw (zero-add n, add-zero i) (omega arith)
 counted-both f i (suc m) n =
     let k : suc m + n ≡ suc (m + n) = omega arith in
     let j : i + suc m ≡ suc i + m = omega arith in
     rw (k, j, counted-both f (suc i) m n) (omega arith)
 
-counted-none : (f : ℕ → Bool) (i n : ℕ) → ((q : ℕ) → i ≤ q → q < i + n → f q ≡ false) → counted f i n ≡ 0
+pub counted-none : (f : ℕ → Bool) (i n : ℕ) → ((q : ℕ) → i ≤ q → q < i + n → f q ≡ false) → counted f i n ≡ 0
 counted-none f i zero h = refl
 counted-none f i (suc n) h = rw (h i (omega arith) (omega arith), counted-none f (suc i) n (λ q a b. h q (omega arith) (omega arith)))
 

@@ -2,6 +2,7 @@
 use Prim.Native.Nat.{ℕ, _≤_, _<_}
 use mathlib.Core.Path.{_≡_}
 use mathlib.Core.Logic.{_↔_, _≢_}
+use mathlib.Core.Bool.{true}
 use mathlib.Core.List.{List}
 use lib.Dec.{eqb}
 use lib.ListN.{length}
@@ -9,8 +10,8 @@ use Rattle.base.specs.Lists.{sum, tabulate, flag, bytesAt}
 use Rattle.meaning.specs.declared.Form.the-variants.{File, Table}
 use Rattle.meaning.specs.Sizes.{noPart, headerLength, lengthOf}
 use Rattle.meaning.specs.Kinds.{Kind, SEQ, REPEAT, arity}
-use Rattle.meaning.specs.Program.{parts, entryAt}
-use Rattle.meaning.specs.Table.{kindAt, operandOf, endAt, parentAt, nextAt, fileIn}
+use Rattle.meaning.specs.Program.{parts, entryAt, programRefusal}
+use Rattle.meaning.specs.Table.{kindAt, operandOf, endAt, parentAt, nextAt, compiled, fileIn, isTable}
 
 -- part q is a child of part p
 pub record ChildOf (t : List ℕ) (p q : ℕ) : Type 0 where
@@ -60,3 +61,11 @@ pub record LaidDown (t : List ℕ) : Type 0 where
   pub next-none : (p : ℕ) → p < parts t → (nextAt t p ≡ noPart) ↔ ((ChildOfKind t REPEAT p → ⊥) × ((s : ℕ) → ChildOfKind t SEQ p → Following t p s → ⊥))
   -- "Children": SEQ and PAR as many as their count, MAINTAIN and REPEAT one, CHOICE two, the leaves none
   pub children-are : (p : ℕ) → p < parts t → numberOfChildren t p ≡ arity (kindAt t p) (operandOf t p)
+
+-- Reading gives, of all byte lists that hold a file, the one that is laid down
+abbrev pub ReadingLaysDown : Type 0
+ReadingLaysDown = (f t : List ℕ) → programRefusal File f ≡ 0 → (compiled File f ≡ t) ↔ ((fileIn t ≡ f) × LaidDown t)
+
+-- and the tables are those that hold an accepted file and are laid down
+abbrev pub TablesLaidDown : Type 0
+TablesLaidDown = (t : List ℕ) → (isTable t ≡ true) ↔ ((programRefusal File (fileIn t) ≡ 0) × LaidDown t)
