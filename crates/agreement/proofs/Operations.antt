@@ -18,12 +18,12 @@ use Rattle.meaning.specs.Tree.{Part}
 use Rattle.meaning.specs.Program.{parts, variables, clocks, programRefusal}
 use Rattle.meaning.specs.Table.{tableOf, compiled, compileRefusal, compiledInto}
 use Rattle.meaning.specs.Record.{phaseOf, lastTime, estimateIn, startedIn, startsIn, waiting, finished}
-use Rattle.meaning.specs.Cycle.{contested, Names, rootEnded, settledMarks, beginRefusal, begunInto, offerRefusal, offeredGoals, offeredInto, goalsInto, settleRefusal, settledInto}
+use Rattle.meaning.specs.Cycle.{contested, Names, rootEnded, settledMarks, beginRefusal, begunInto, offerTests, offerRefusal, offeredGoals, offeredInto, goalsInto, settleTests, settleRefusal, settledInto}
 use Rattle.meaning.specs.Answers.{answered, bufferTooShort, noVariable}
 use Rattle.meaning.specs.Operations.{Begun}
 use Rattle.meaning.proofs.Files.{accepted}
 use Rattle.meaning.proofs.Tables.{table-holds, table-accepted, compiled-is}
-use Rattle.meaning.proofs.Refusals.{offer-list, settle-list, settled-phase, goal-bytes-into}
+use Rattle.meaning.proofs.Refusals.{settled-phase, goal-bytes-into}
 use Rattle.agreement.specs.Runs.{Call, offer, settling, Reply, refused, goals, running, done, reply, settledReply, tableReply, tableNext, tableReplies, tableAfter, tableFinishing, State, begin, fed, treeNext, settlingCount, possible, NameAlike, NamesAlike, Alike, Timed}
 use Rattle.agreement.specs.Calls.{tableIn, Made, offerMade, settlingMade, callOf, recordFrom, Promised, AllPromised, replyOf, NameInAnswer, NamesInAnswers, recordAfter, finishingCycle, CallsAlike, OperationsAlike, OperationsAgree, PromisesKept}
 use Rattle.agreement.proofs.Agreement.{failing-passes, demand-3}
@@ -31,11 +31,11 @@ use Rattle.agreement.proofs.Agreement.{failing-passes, demand-3}
 -- the numbers of refusals are below those of the other answers
 offer-below : (t r : List ℕ) (time room : ℕ) → leb answered (offerRefusal t r time room) ≡ false
 unfolding offerRefusal
-offer-below t r time room = not-true (leb answered (offerRefusal t r time room)) (failing-passes (λ n. not (leb answered n)) (offer-list t r time room) refl refl)
+offer-below t r time room = not-true (leb answered (offerRefusal t r time room)) (failing-passes (λ n. not (leb answered n)) (offerTests t r time room) refl refl)
 
 pub settle-below : (t r est : List ℕ) → leb answered (settleRefusal t r est) ≡ false
 unfolding settleRefusal
-settle-below t r est = not-true (leb answered (settleRefusal t r est)) (failing-passes (λ n. not (leb answered n)) (settle-list t r est) refl refl)
+settle-below t r est = not-true (leb answered (settleRefusal t r est)) (failing-passes (λ n. not (leb answered n)) (settleTests t r est) refl refl)
 
 -- What an offer's answer tells, where n is its refusal by the definitions, and what a settling's does, where b says that the root has ended
 offer-reply : (n answer : ℕ) (gs : List ℕ) → ((n ≡ 0 → ⊥) → answer ≡ n) → (n ≡ 0 → answered ≤ answer) → leb answered n ≡ false

@@ -8,10 +8,7 @@ use program_decompile::decompile;
 use run_begin::begin;
 use run_offer::offer;
 use run_settle::settle;
-ghost use mathlib.Core.Path.{_≡_};
-ghost use lib.ListN.{length};
-ghost use Rattle.meaning.specs.Table.{decompileRefusal, decompiledInto};
-ghost use Rattle.meaning.specs.Operations.{Compiled, Begun, Offered, Settled};
+ghost use Rattle.meaning.specs.Operations.{Compiled, Decompiled, Begun, Offered, Settled};
 
 #[no_mangle]
 pub extern "C" fn gurvoke_compile(file: &[u8], table: &mut [u8]) -> u32
@@ -22,8 +19,7 @@ pub extern "C" fn gurvoke_compile(file: &[u8], table: &mut [u8]) -> u32
 
 #[no_mangle]
 pub extern "C" fn gurvoke_decompile(table: &[u8], file: &mut [u8]) -> u32
-    ensures { λ r. ⌜ r ≡ decompileRefusal (now (table .entry)) (length (now (file .entry))) ⌝ }
-    ensures { λ _. ⌜ now (file .exit) ≡ decompiledInto (now (table .entry)) (now (file .entry)) ⌝ }
+    ensures { λ a. ⌜ Decompiled (now (table .entry)) (now (file .entry)) a (now (file .exit)) ⌝ }
 {
     answer_number(decompile(table, file))
 }

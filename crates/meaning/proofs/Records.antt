@@ -19,9 +19,8 @@ use Rattle.meaning.specs.Table.{insideOf, isTable}
 use Rattle.meaning.specs.Conditions.{Situation}
 use Rattle.meaning.specs.declared.Transition.{Transition}
 use Rattle.meaning.specs.declared.Transition.the-variants.{Stays, Ends, First, Second}
-use Rattle.meaning.specs.Cycle.{applied, begins, initialMarksFrom, initialMarks, breaks, checkedFrom, checkedMarks, offeredRecord, leavesFrom, settledFrom, settledMarks, rootEnded, startsClock, clockFlags, clockStarts, settledRecord, estimateAllowed, freshRecord, beginRefusal, begunInto}
+use Rattle.meaning.specs.Cycle.{applied, begins, initialMarksFrom, initialMarks, breaks, checkedFrom, checkedMarks, offeredRecord, leavesFrom, settledFrom, settledMarks, rootEnded, startsClock, clockFlags, clockStarts, settledRecord, estimateAllowed, freshRecord, beginTests, beginRefusal, begunInto}
 use Rattle.meaning.specs.Record.{timePlace, estimatePlace, startedPlace, startsPlace, marksPlace, recordLength, timeAt, phaseOf, lastTime, estimateIn, startedIn, startsIn, marksIn, recordBytes, isMark, isZero, restZero, valuesAllowed, clockAllowed, clocksAllowed, rootAllowed, partsAllowed, recordAllowed, waiting, offered, finished}
-use Rattle.meaning.specs.Answers.{bufferTooShort, notATable, estimateNotAllowed}
 use Rattle.meaning.proofs.Tables.{table-held, root-there, root-end}
 
 -- Numbers: a number is read back from as many bytes as hold it
@@ -396,9 +395,9 @@ estimate-fits t est h =
 
 -- Beginning a run
 module _ (t est : List ℕ) (room : ℕ) (h : beginRefusal t est room ≡ 0) where
-  pub begin-tests : Passed ((notATable, isTable t) ∷ (estimateNotAllowed, estimateAllowed (variables t) est) ∷ (bufferTooShort, leb recordLength room) ∷ [])
+  pub begin-tests : Passed (beginTests t est room)
   unfolding beginRefusal
-  begin-tests = none-fails ((notATable, isTable t) ∷ (estimateNotAllowed, estimateAllowed (variables t) est) ∷ (bufferTooShort, leb recordLength room) ∷ []) refl h
+  begin-tests = none-fails (beginTests t est room) refl h
 
   -- what a record holds at the beginning
   pub begun-fits : length (initialMarks t 0) ≡ parts t → Fits t 0 est (replicate (clocks t) 0) (replicate (clocks t) 0) (initialMarks t 0)

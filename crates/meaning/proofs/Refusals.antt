@@ -1,23 +1,23 @@
 -- The tests that a call has passed where it is not refused, what it then leaves at the front of its buffers, and that a refused one changes nothing.
 use Prim.Native.Nat.{ℕ, _≤_}
 use native.Mathlib.Omega.{arith}
-use mathlib.Core.Path.{_≡_, refl, ap, _∙_}
-use mathlib.Core.Bool.{Bool, cond, not, _||_}
+use mathlib.Core.Path.{_≡_, refl, sym, ap, _∙_}
+use mathlib.Core.Bool.{cond}
 use mathlib.Core.Logic.{inl}
-use mathlib.Core.List.{List, [], _∷_}
-use lib.Dec.{eqb, leb}
+use mathlib.Core.List.{List}
+use lib.Dec.{eqb}
 use lib.ListN.{length, set, drop}
 use lib.Seq.{sets, getD-set-same}
 use borrow.Author.Tests.{leb-true, ne-eqb}
-use Rattle.base.specs.Lists.{flat, bytesAt}
-use Rattle.base.proofs.Lists.{Passed, none-fails}
+use Rattle.base.specs.Lists.{flat, firstFailing, bytesAt}
+use Rattle.base.proofs.Lists.{Passed, none-fails, fails-append}
 use Rattle.base.proofs.Stores.{getD-sets-out, bytes-sets, drop-sets-out}
 use Rattle.meaning.specs.Sizes.{timeWidth, littleEndian}
-use Rattle.meaning.specs.Program.{variables, clocks}
-use Rattle.meaning.specs.Table.{isTable}
-use Rattle.meaning.specs.Record.{estimatePlace, startedPlace, startsPlace, marksPlace, phaseOf, lastTime, startedIn, startsIn, recordAllowed, offered, waiting, finished}
-use Rattle.meaning.specs.Cycle.{beginRefusal, begunInto, checkedMarks, leavesFrom, offerRefusal, offeredGoals, offeredInto, goalsInto, settledMarks, settledRecord, settleRefusal, settledInto, estimateAllowed, rootEnded, worksFrom, startingLeaves, clockFlags, clockStarts}
-use Rattle.meaning.specs.Answers.{bufferTooShort, notATable, recordNotAllowed, wrongPhase, timeBeforeLast, estimateNotAllowed, runFinished, nothingAtWork}
+use Rattle.meaning.specs.declared.Form.the-variants.{File, Table}
+use Rattle.meaning.specs.Program.{variables, clocks, programTests, programRefusal}
+use Rattle.meaning.specs.Table.{roomTest, compileTests, compileRefusal}
+use Rattle.meaning.specs.Record.{estimatePlace, startedPlace, startsPlace, marksPlace, phaseOf, lastTime, startedIn, startsIn, waiting, finished}
+use Rattle.meaning.specs.Cycle.{beginRefusal, begunInto, checkedMarks, leavesFrom, offerTests, offerRefusal, offeredGoals, offeredInto, goalsInto, settledMarks, settledRecord, settleTests, settleRefusal, settledInto, rootEnded, startingLeaves, clockFlags, clockStarts}
 use Rattle.meaning.proofs.Entries.{length-goals}
 use Rattle.meaning.proofs.Records.{allowed-long}
 
@@ -25,31 +25,15 @@ use Rattle.meaning.proofs.Records.{allowed-long}
 pub effect : (n m : ℕ) (new out out₁ : List ℕ) → n ≡ m → out₁ ≡ cond (eqb n 0) new out → (n ≡ m) × (out₁ ≡ cond (eqb m 0) new out)
 effect n m new out out₁ e h = (e, h ∙ ap (λ (k : ℕ). cond (eqb k 0) new out) e)
 
--- the tests of an offer and of a settling
-abbrev pub offer-list : List ℕ → List ℕ → ℕ → ℕ → List (ℕ × Bool)
-offer-list t r time room =
-    (notATable, isTable t)
-    ∷ (recordNotAllowed, recordAllowed t r)
-    ∷ (runFinished, not (eqb (phaseOf r) finished))
-    ∷ (wrongPhase, not (eqb (phaseOf r) offered))
-    ∷ (timeBeforeLast, leb (lastTime r) time)
-    ∷ (bufferTooShort, leb (variables t) room)
-    ∷ []
-
-abbrev pub settle-list : List ℕ → List ℕ → List ℕ → List (ℕ × Bool)
-settle-list t r est =
-    (notATable, isTable t)
-    ∷ (recordNotAllowed, recordAllowed t r)
-    ∷ (runFinished, not (eqb (phaseOf r) finished))
-    ∷ (wrongPhase, not (eqb (phaseOf r) waiting))
-    ∷ (estimateNotAllowed, estimateAllowed (variables t) est)
-    ∷ (nothingAtWork, rootEnded (settledMarks t r est) || worksFrom t 0 (settledMarks t r est))
-    ∷ []
+-- the refusal of compiling is the first of its tests that fails
+pub compile-first : (f : List ℕ) (room : ℕ) → compileRefusal f room ≡ firstFailing (compileTests f room)
+unfolding compileRefusal programRefusal
+compile-first f room = sym (fails-append (programTests File f) (roomTest Table f room) refl)
 
 module _ (t r : List ℕ) (time room : ℕ) (h : offerRefusal t r time room ≡ 0) where
-  pub offer-tests : Passed (offer-list t r time room)
+  pub offer-tests : Passed (offerTests t r time room)
   unfolding offerRefusal
-  offer-tests = none-fails (offer-list t r time room) refl h
+  offer-tests = none-fails (offerTests t r time room) refl h
 
   -- an offer that is not refused has room for the goal bytes
   offer-room : variables t ≤ room
@@ -66,9 +50,9 @@ unfolding goalsInto
 goal-bytes-into t r time goals h = rw h (front-written (offeredGoals t r time) goals (variables t) (length-goals (variables t) (leavesFrom t 0 (checkedMarks t r time))) (offer-room t r time (length goals) h))
 
 module _ (t r est : List ℕ) (h : settleRefusal t r est ≡ 0) where
-  pub settle-tests : Passed (settle-list t r est)
+  pub settle-tests : Passed (settleTests t r est)
   unfolding settleRefusal
-  settle-tests = none-fails (settle-list t r est) refl h
+  settle-tests = none-fails (settleTests t r est) refl h
 
   -- the phase is the first byte, and no later store reaches it
   pub settled-phase : phaseOf (settledRecord t r est) ≡ cond (rootEnded (settledMarks t r est)) finished waiting

@@ -154,24 +154,29 @@ estimateAllowed v est = eqb (length est) v && all (λ x. leb x maxValue) est
 unfoldable pub freshRecord : List ℕ → List ℕ → List ℕ
 freshRecord t est = recordBytes waiting 0 est (replicate (clocks t) 0) (replicate (clocks t) 0) (initialMarks t 0)
 
--- "Beginning 9, 13, 8"
+-- "Beginning 9, 13, 8": each number with the test that must pass, in order; the refusal is the first that fails
+abbrev pub beginTests : List ℕ → List ℕ → ℕ → List (ℕ × Bool)
+beginTests t est room = (notATable, isTable t) ∷ (estimateNotAllowed, estimateAllowed (variables t) est) ∷ (bufferTooShort, leb recordLength room) ∷ []
+
 unfoldable pub beginRefusal : List ℕ → List ℕ → ℕ → ℕ
-beginRefusal t est room = firstFailing ((notATable, isTable t) ∷ (estimateNotAllowed, estimateAllowed (variables t) est) ∷ (bufferTooShort, leb recordLength room) ∷ [])
+beginRefusal t est room = firstFailing (beginTests t est room)
 
 unfoldable pub begunInto : List ℕ → List ℕ → List ℕ → List ℕ
 begunInto t est r = cond (eqb (beginRefusal t est (length r)) 0) (sets r 0 (freshRecord t est)) r
 
 -- "Offer 9, 10, 14, 11, 12, 8"
-unfoldable pub offerRefusal : List ℕ → List ℕ → ℕ → ℕ → ℕ
-offerRefusal t r time room =
-    firstFailing
-    ((notATable, isTable t)
+abbrev pub offerTests : List ℕ → List ℕ → ℕ → ℕ → List (ℕ × Bool)
+offerTests t r time room =
+    (notATable, isTable t)
     ∷ (recordNotAllowed, recordAllowed t r)
     ∷ (runFinished, not (eqb (phaseOf r) finished))
     ∷ (wrongPhase, not (eqb (phaseOf r) offered))
     ∷ (timeBeforeLast, leb (lastTime r) time)
     ∷ (bufferTooShort, leb (variables t) room)
-    ∷ [])
+    ∷ []
+
+unfoldable pub offerRefusal : List ℕ → List ℕ → ℕ → ℕ → ℕ
+offerRefusal t r time room = firstFailing (offerTests t r time room)
 
 -- the marks after an offer, what it offers, and what stands in record and goal buffer afterwards
 abbrev pub checkedMarks : List ℕ → List ℕ → ℕ → List ℕ
@@ -203,16 +208,18 @@ worksFrom t p [] = false
 worksFrom t p (m ∷ ms) = (isMark m && (isLeaf (entryAt Table t p) || (isKind CHOICE (entryAt Table t p) && not (any isMark (take (insideOf t p) ms))))) || worksFrom t (suc p) ms
 
 -- "Settling 9, 10, 14, 11, 13, 15"
-unfoldable pub settleRefusal : List ℕ → List ℕ → List ℕ → ℕ
-settleRefusal t r est =
-    firstFailing
-    ((notATable, isTable t)
+abbrev pub settleTests : List ℕ → List ℕ → List ℕ → List (ℕ × Bool)
+settleTests t r est =
+    (notATable, isTable t)
     ∷ (recordNotAllowed, recordAllowed t r)
     ∷ (runFinished, not (eqb (phaseOf r) finished))
     ∷ (wrongPhase, not (eqb (phaseOf r) waiting))
     ∷ (estimateNotAllowed, estimateAllowed (variables t) est)
     ∷ (nothingAtWork, rootEnded (settledMarks t r est) || worksFrom t 0 (settledMarks t r est))
-    ∷ [])
+    ∷ []
+
+unfoldable pub settleRefusal : List ℕ → List ℕ → List ℕ → ℕ
+settleRefusal t r est = firstFailing (settleTests t r est)
 
 abbrev pub startingLeaves : List ℕ → List ℕ → List Entry
 startingLeaves t r = leavesFrom t 0 (marksIn t r)

@@ -1,4 +1,4 @@
--- What compiling and the operations of a run promise: the answer's number and every byte of what they write, for refused calls too.
+-- What the operations promise: the answer's number and every byte of what they write, for refused calls too.
 use Prim.Native.Nat.{ℕ, _+_, _-_, _≤_}
 use mathlib.Core.Path.{_≡_}
 use mathlib.Core.Bool.{cond}
@@ -6,7 +6,7 @@ use mathlib.Core.List.{List}
 use lib.Dec.{eqb}
 use lib.ListN.{length}
 use Rattle.base.specs.Lists.{flag}
-use Rattle.meaning.specs.Table.{compileRefusal, compiledInto}
+use Rattle.meaning.specs.Table.{compileRefusal, compiledInto, decompileRefusal, decompiledInto}
 use Rattle.meaning.specs.Answers.{answered}
 use Rattle.meaning.specs.Cycle.{beginRefusal, begunInto, Names, offerRefusal, offeredGoals, offeredInto, goalsInto, rootEnded, settledMarks, settleRefusal, settledInto}
 
@@ -14,6 +14,11 @@ use Rattle.meaning.specs.Cycle.{beginRefusal, begunInto, Names, offerRef
 pub record Compiled (f out : List ℕ) (answer : ℕ) (out' : List ℕ) : Type 0 where
   pub answer-is : answer ≡ compileRefusal f (length out)
   pub buffer-is : out' ≡ compiledInto f out
+
+-- Giving back, of a table and an output buffer
+pub record Decompiled (t out : List ℕ) (answer : ℕ) (out' : List ℕ) : Type 0 where
+  pub answer-is : answer ≡ decompileRefusal t (length out)
+  pub buffer-is : out' ≡ decompiledInto t out
 
 -- A beginning, of a table, an estimate and a record buffer, that answers a number and leaves a record
 pub record Begun (t est r : List ℕ) (answer : ℕ) (r' : List ℕ) : Type 0 where

@@ -13,7 +13,7 @@ use Rattle.meaning.specs.declared.Form.the-variants.{File, Table}
 use Rattle.meaning.specs.Sizes.{noPart, headerLength, endPlace, parentPlace, nextPlace, rowLength, lengthOf, numberBytes, bytesAt, numberAt}
 use Rattle.meaning.specs.Kinds.{Kind, UNKNOWN, GOAL, START, WAIT, SEQ, PAR, MAINTAIN, CHOICE, REPEAT, kindOf, numberOf}
 use Rattle.meaning.specs.Tree.{Part, fold, size}
-use Rattle.meaning.specs.Program.{parts, variables, clocks, sizeBytes, operandBytes, entryAt, entries, arrays, treeOf, programRefusal}
+use Rattle.meaning.specs.Program.{parts, variables, clocks, sizeBytes, operandBytes, entryAt, entries, arrays, treeOf, programTests, programRefusal}
 use Rattle.meaning.specs.Answers.{bufferTooShort, notATable}
 
 -- "kind; end (one past the part's last descendant); parent; next; the operand"
@@ -110,17 +110,27 @@ fileIn t = bytesAt t 0 headerLength ++ arrays (entries Table t)
 unfoldable pub isTable : List ℕ → Bool
 isTable t = eqb (programRefusal File (fileIn t)) 0 && same (compiled File (fileIn t)) t
 
--- "reading 1 to 7, each over all parts, then 8"; `room` is the output buffer's length
+-- "reading 1 to 7, each over all parts, then 8": each number with the test that must pass, in order; `room` is the output buffer's length
+abbrev pub roomTest : Form → List ℕ → ℕ → List (ℕ × Bool)
+roomTest form s room = (bufferTooShort, leb (lengthOf form (parts s)) room) ∷ []
+
+abbrev pub compileTests : List ℕ → ℕ → List (ℕ × Bool)
+compileTests f room = programTests File f ++ roomTest Table f room
+
+-- the number of the first of these that fails, 0 where none does (the law `compile-first`)
 unfoldable pub compileRefusal : List ℕ → ℕ → ℕ
-compileRefusal f room = cond (eqb (programRefusal File f) 0) (firstFailing ((bufferTooShort, leb (lengthOf Table (parts f)) room) ∷ [])) (programRefusal File f)
+compileRefusal f room = cond (eqb (programRefusal File f) 0) (firstFailing (roomTest Table f room)) (programRefusal File f)
 
 -- what stands in the output buffer afterwards: "an output buffer's further bytes are untouched", and a refused call changes nothing
 unfoldable pub compiledInto : List ℕ → List ℕ → List ℕ
 compiledInto f out = cond (eqb (compileRefusal f (length out)) 0) (sets out 0 (compiled File f)) out
 
 -- "Back to a file 9, 8"
+abbrev pub decompileTests : List ℕ → ℕ → List (ℕ × Bool)
+decompileTests t room = (notATable, isTable t) ∷ roomTest File t room
+
 unfoldable pub decompileRefusal : List ℕ → ℕ → ℕ
-decompileRefusal t room = firstFailing ((notATable, isTable t) ∷ (bufferTooShort, leb (lengthOf File (parts t)) room) ∷ [])
+decompileRefusal t room = firstFailing (decompileTests t room)
 
 unfoldable pub decompiledInto : List ℕ → List ℕ → List ℕ
 decompiledInto t out = cond (eqb (decompileRefusal t (length out)) 0) (sets out 0 (fileIn t)) out

@@ -2,8 +2,9 @@
 use Prim.Native.Nat.{ℕ, _+_, _≤_, _<_}
 use native.Mathlib.Omega.{arith}
 use mathlib.Core.Path.{_≡_, refl, sym, ap, _∙_}
-use mathlib.Core.Bool.{Bool, true, false, not}
+use mathlib.Core.Bool.{Bool, true, false, cond, not}
 use mathlib.Core.List.{List}
+use lib.Dec.{eqb}
 use lib.ListN.{length}
 use lib.Seq.{sets}
 use borrow.Author.Tests.{le-leb, lt-leb, not-true, not-false}
@@ -15,6 +16,7 @@ use Rattle.meaning.specs.Sizes.{headerLength, lengthOf, bytesAt}
 use Rattle.meaning.specs.Program.{parts, entries, kindByte, entryOperand, arrays}
 use Rattle.meaning.specs.Table.{fileIn, isTable, decompileRefusal, decompiledInto}
 use Rattle.meaning.specs.Answers.{bufferTooShort, notATable}
+use Rattle.meaning.specs.Operations.{Decompiled}
 use Rattle.meaning.proofs.Files.{length-entries}
 use Rattle.meaning.proofs.Tables.{table-held}
 use Rattle.meaning.proofs.Refusals.{effect}
@@ -37,24 +39,27 @@ write-fits t b n m room b-is d n-is m-is l = (omega (arith, table-held t (sym b-
 
 -- Giving back, at each of its answers
 module _ (t out : List ℕ) (b : Bool) (b-is : b ≡ isTable t) where
-  abbrev DecompiledAs : ℕ → List ℕ → Type 0
-  DecompiledAs n out₁ = (n ≡ decompileRefusal t (length out)) × (out₁ ≡ decompiledInto t out)
+  answered-by : (n : ℕ) (out₁ : List ℕ) → n ≡ decompileRefusal t (length out) → out₁ ≡ cond (eqb n 0) (sets out 0 (fileIn t)) out → Decompiled t out n out₁
+  unfolding decompiledInto
+  answered-by n out₁ e h =
+      let x = effect n (decompileRefusal t (length out)) (sets out 0 (fileIn t)) out out₁ e h in
+      record { answer-is = x .0; buffer-is = x .1 }
 
-  pub decompile-refused : not b ≡ true → DecompiledAs notATable out
-  unfolding decompileRefusal decompiledInto
-  decompile-refused d = effect notATable (decompileRefusal t (length out)) (sets out 0 (fileIn t)) out out (rw (sym b-is ∙ not-true b d)) refl
+  pub decompile-refused : not b ≡ true → Decompiled t out notATable out
+  unfolding decompileRefusal
+  decompile-refused d = answered-by notATable out (rw (sym b-is ∙ not-true b d)) refl
 
   module _ (n m : ℕ) (d : not b ≡ false) (n-is : n ≡ parts t) (m-is : m ≡ lengthOf File n) where
-    pub decompile-short : length out < m → DecompiledAs bufferTooShort out
-    unfolding decompileRefusal decompiledInto
+    pub decompile-short : length out < m → Decompiled t out bufferTooShort out
+    unfolding decompileRefusal
     decompile-short l =
-        effect bufferTooShort (decompileRefusal t (length out)) (sets out 0 (fileIn t)) out out
+        answered-by bufferTooShort out
         (rw (sym b-is ∙ not-false b d, lt-leb (lengthOf File (parts t)) (length out) (omega (arith, m-is ∙ ap (lengthOf File) n-is))))
         refl
 
-    pub decompile-done : (out₁ : List ℕ) → m ≤ length out → out₁ ≡ sets out 0 (fileIn t) → DecompiledAs 0 out₁
-    unfolding decompileRefusal decompiledInto
+    pub decompile-done : (out₁ : List ℕ) → m ≤ length out → out₁ ≡ sets out 0 (fileIn t) → Decompiled t out 0 out₁
+    unfolding decompileRefusal
     decompile-done out₁ l w =
-        effect 0 (decompileRefusal t (length out)) (sets out 0 (fileIn t)) out out₁
+        answered-by 0 out₁
         (rw (sym b-is ∙ not-false b d, le-leb (lengthOf File (parts t)) (length out) (omega (arith, m-is ∙ ap (lengthOf File) n-is))))
         w

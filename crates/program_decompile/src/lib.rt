@@ -17,13 +17,13 @@ ghost use lib.Seq.{sets};
 ghost use Rattle.meaning.specs.declared.Form.the-variants.{File, Table};
 ghost use Rattle.meaning.specs.Sizes.{lengthOf};
 ghost use Rattle.meaning.specs.Program.{parts};
-ghost use Rattle.meaning.specs.Table.{fileIn, decompileRefusal, decompiledInto};
+ghost use Rattle.meaning.specs.Table.{fileIn};
 ghost use Rattle.meaning.specs.Answers.{answerNumber};
+ghost use Rattle.meaning.specs.Operations.{Decompiled};
 
 // Decompiles a location table into the file that it holds: refusals 9, then 8.
 pub fn decompile(table: &[u8], file: &mut [u8]) -> Answer
-    ensures { λ r. ⌜ answerNumber r ≡ decompileRefusal (now (table .entry)) (length (now (file .entry))) ⌝ }
-    ensures { λ _. ⌜ now (file .exit) ≡ decompiledInto (now (table .entry)) (now (file .entry)) ⌝ }
+    ensures { λ r. ⌜ Decompiled (now (table .entry)) (now (file .entry)) (answerNumber r) (now (file .exit)) ⌝ }
 {
     if !is_table(table) {
         return Answer::Refused(Refusal::NotATable);
