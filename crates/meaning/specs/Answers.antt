@@ -1,5 +1,7 @@
 -- Refusal by refusal: the number that document 01 gives each answer.
 use Prim.Native.Nat.{ℕ, _+_}
+use mathlib.Core.Bool.{Bool, true}
+use lib.Dec.{ltb}
 use Rattle.meaning.specs.declared.Refusal.{Refusal}
 use Rattle.meaning.specs.declared.Refusal.the-variants.{FileTooShort, SizeOutOfRange, WrongLength, UnknownKind, OperandNotAllowed, NotOneTree, TooDeep, BufferTooShort, NotATable, RecordNotAllowed, WrongPhase, TimeBeforeLast, EstimateNotAllowed, RunFinished, NothingAtWork}
 use Rattle.meaning.specs.declared.Answer.{Answer}
@@ -8,6 +10,7 @@ use Rattle.meaning.specs.declared.OfferAnswer.{OfferAnswer}
 use Rattle.meaning.specs.declared.OfferAnswer.the-variants.{Agreed, Contested, Refused as OfferRefused}
 use Rattle.meaning.specs.declared.SettleAnswer.{SettleAnswer}
 use Rattle.meaning.specs.declared.SettleAnswer.the-variants.{Running, Finished, Refused as SettleRefused}
+use Rattle.meaning.specs.Sizes.{maxVariables}
 
 -- "Refusal by refusal": each has here the name that the code's `Refusal` and the header give it
 -- "file under 3 bytes"
@@ -104,6 +107,12 @@ abbrev pub offerNumber : OfferAnswer → ℕ
 offerNumber (OfferRefused r) = refusalNumber r
 offerNumber Agreed = answered + noVariable
 offerNumber (Contested v) = answered + v
+
+-- the answers that an offer gives: `Contested` only with a variable's number, so that no number is that of two of them
+abbrev pub oneCase : OfferAnswer → Bool
+oneCase (OfferRefused r) = true
+oneCase Agreed = true
+oneCase (Contested v) = ltb v maxVariables
 
 abbrev pub settleNumber : SettleAnswer → ℕ
 settleNumber (SettleRefused r) = refusalNumber r

@@ -7,10 +7,11 @@ use mathlib.Core.Path.{_≡_, refl, ap, _∙_}
 use mathlib.Core.Logic.{_⊎_, inl, inr}
 use mathlib.Core.Bool.{Bool, true, false, cond}
 use mathlib.Core.List.{List, [], _∷_}
-use lib.Dec.{eqb}
+use lib.Dec.{eqb, ltb}
 use lib.ListN.{length, getD}
-use borrow.Author.Tests.{eqb-true, eqb-false, eq-eqb, ne-eqb}
+use borrow.Author.Tests.{eqb-true, eqb-false, eq-eqb, ne-eqb, lt-ltb}
 use Rattle.base.specs.Lists.{bytesAt}
+use Rattle.meaning.specs.Sizes.{maxVariables}
 use Rattle.meaning.specs.Cycle.{contested, Names}
 use Rattle.meaning.specs.Answers.{answered, noVariable}
 use Rattle.run_goals.specs.Merged.{lowestContested}
@@ -67,6 +68,10 @@ module _ (g : List ℕ) (v n x : ℕ) (i : lowestContested v (bytesAt g v (n - v
       let k : n - v ≡ 0 = omega arith in
       let e : noVariable ≡ x = rw k at i in
       ap (λ (y : ℕ). answered + y) e
+
+-- a variable below the number of variables is one that `Contested` may name
+pub name-one : (v n : ℕ) → v < n → n ≤ maxVariables → ltb v maxVariables ≡ true
+name-one v n l m = lt-ltb v maxVariables (omega arith)
 
 pub name-starts : (g : List ℕ) (n : ℕ) → lowestContested 0 (bytesAt g 0 (n - 0)) ≡ lowestContested 0 (bytesAt g 0 n)
 name-starts g n = rw sub-zero

@@ -3,16 +3,20 @@ use base::wide;
 use meaning::OfferAnswer;
 use meaning::sizes::CONTESTED;
 ghost use mathlib.Core.Path.{_≡_};
+ghost use mathlib.Core.Bool.{true};
 ghost use Prim.Native.Nat.{_+_, _≤_};
 ghost use lib.ListN.{length};
 ghost use Rattle.base.specs.Lists.{bytesAt};
-ghost use Rattle.meaning.specs.Answers.{answered, offerNumber};
+ghost use Rattle.meaning.specs.Sizes.{maxVariables};
+ghost use Rattle.meaning.specs.Answers.{answered, offerNumber, oneCase};
 ghost use Rattle.run_goals.specs.Merged.{lowestContested};
 
 // Names the lowest of n variables whose goal byte is contested, or none.
 pub fn lowest_contested(g: &[u8], n: u8) -> OfferAnswer
     requires { ⌜ n ≤ length (now g) ⌝ }
+    requires { ⌜ n ≤ maxVariables ⌝ }
     ensures { λ a. ⌜ offerNumber a ≡ answered + lowestContested 0 (bytesAt (now (g .entry)) 0 n) ⌝ }
+    ensures { λ a. ⌜ oneCase a ≡ true ⌝ }
 {
     for v in 0..n {
         if g[wide(v)] == CONTESTED {

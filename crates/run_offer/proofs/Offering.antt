@@ -15,7 +15,7 @@ use Rattle.base.proofs.Stores.{length-bytes, bytes-same, getD-sets-out, bytes-s
 use Rattle.meaning.specs.declared.Refusal.{Refusal}
 use Rattle.meaning.specs.declared.Answer.{Answer}
 use Rattle.meaning.specs.declared.Answer.the-variants.{Done, Refused}
-use Rattle.meaning.specs.Sizes.{timeWidth, littleEndian}
+use Rattle.meaning.specs.Sizes.{maxVariables, timeWidth, littleEndian}
 use Rattle.meaning.specs.Program.{parts, variables}
 use Rattle.meaning.specs.Table.{isTable}
 use Rattle.meaning.specs.Record.{timePlace, estimatePlace, marksPlace, recordLength, phaseOf, lastTime, estimateIn, marksIn, offered}
@@ -23,6 +23,7 @@ use Rattle.meaning.specs.Cycle.{leavesFrom, goalBytes, situation, checkedFrom, 
 use Rattle.meaning.specs.Answers.{answered, refusalNumber, answerNumber, bufferTooShort, wrongPhase, timeBeforeLast}
 use Rattle.meaning.specs.Operations.{Offered}
 use Rattle.meaning.proofs.Answers.{not-refused, is-refused, refused-before, left-open}
+use Rattle.meaning.proofs.Tables.{table-held}
 use Rattle.meaning.proofs.Records.{length-checked, allowed-long}
 use Rattle.meaning.proofs.Entries.{length-goals}
 use Rattle.run_record.proofs.Marks.{marks-inside}
@@ -86,6 +87,9 @@ module _ (t r : List ℕ) (time room : ℕ) (free : offerRefusal t r time room �
 
   pub goals-kept : (g : List ℕ) (v : ℕ) → length g ≡ room → v ≡ variables t → v ≤ length g
   goals-kept g v e v-is = omega (arith, offer-room)
+
+  pub names-fit : (v : ℕ) → v ≡ variables t → v ≤ maxVariables
+  names-fit v v-is = omega (arith, table-held t offer-table .1 .within .variables-fit)
 
 -- The record: phase and time stand before all that the check looks at
 checked-is : (t r : List ℕ) (time : ℕ) → checkedMarks t r time ≡ checkedFrom t (judging t r time) 0 (marksIn t r) 0

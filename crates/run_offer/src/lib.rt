@@ -26,13 +26,14 @@ ghost use lib.Seq.{sets};
 ghost use Rattle.meaning.specs.Table.{isTable};
 ghost use Rattle.meaning.specs.Record.{recordLength};
 ghost use Rattle.meaning.specs.Cycle.{offerRefusal, offeredRecord, offeredGoals};
-ghost use Rattle.meaning.specs.Answers.{answered, answerNumber, offerNumber};
+ghost use Rattle.meaning.specs.Answers.{answered, answerNumber, offerNumber, oneCase};
 ghost use Rattle.meaning.specs.Operations.{Offered};
 ghost use Rattle.run_goals.specs.Merged.{lowestContested};
 
 // Makes an offer: refusals 9, 10, 14, 11, 12, 8.
 pub fn offer(t: &[u8], r: &mut [u8], time: u32, goals: &mut [u8]) -> OfferAnswer
     ensures { λ a. ⌜ Offered (now (t .entry)) (now (r .entry)) time (now (goals .entry)) (offerNumber a) (now (r .exit)) (now (goals .exit)) ⌝ }
+    ensures { λ a. ⌜ oneCase a ≡ true ⌝ }
 {
     let answer = offer_refusal(t, r, time, goals.len());
     match answer {
@@ -65,6 +66,7 @@ fn offer_refusal(t: &[u8], r: &[u8], time: u32, room: usize) -> Answer
 fn make_offer(t: &[u8], r: &mut [u8], time: u32, goals: &mut [u8]) -> OfferAnswer
     requires { ⌜ offerRefusal (now t) (now r) time (length (now goals)) ≡ 0 ⌝ }
     ensures { λ a. ⌜ offerNumber a ≡ answered + lowestContested 0 (offeredGoals (now (t .entry)) (now (r .entry)) time) ⌝ }
+    ensures { λ a. ⌜ oneCase a ≡ true ⌝ }
     ensures { λ _. ⌜ now (r .exit) ≡ offeredRecord (now (t .entry)) (now (r .entry)) time ⌝ }
     ensures { λ _. ⌜ now (goals .exit) ≡ sets (now (goals .entry)) 0 (offeredGoals (now (t .entry)) (now (r .entry)) time) ⌝ }
 {

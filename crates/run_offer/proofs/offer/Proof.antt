@@ -1,5 +1,6 @@
 -- `offer` meets its contract: a refused offer writes nothing, and any other is made.
 use borrow.Author.Needs.{needs}
+use mathlib.Core.Path.{refl}
 use Rattle.meaning.proofs.Answers.{not-refused}
 use Rattle.run_offer.proofs.Offering.{offer-refused, offer-made}
 use Rattle.run_offer.proofs.offer.Statement.{statement}
@@ -21,7 +22,7 @@ same-length : tie.Need-same-length
 same-length c = search needs
 
 returns : tie.Need-returns
-returns c = search offer-refused
+returns c = (search offer-refused, refl)
 
 same-length-2 : tie.Need-same-length-2
 same-length-2 c = search needs
@@ -30,7 +31,7 @@ same-length-3 : tie.Need-same-length-3
 same-length-3 c = search needs
 
 returns-2 : tie.Need-returns-2
-returns-2 c = search (offer-made, not-refused)
+returns-2 c = (search (offer-made, not-refused), search needs)
 
 pub offer-spec : {M : Type 1} → statement M
 offer-spec =

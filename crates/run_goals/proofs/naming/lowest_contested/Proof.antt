@@ -1,10 +1,10 @@
 -- `lowest_contested` meets its contract: at each turn, the lowest contested one of the variables that are left is the lowest of all.
 use borrow.Author.Needs.{needs}
 use Prim.Native.Nat.{_-_}
-use mathlib.Core.Path.{_≡_}
+use mathlib.Core.Path.{_≡_, refl}
 use Rattle.base.specs.Lists.{bytesAt}
 use Rattle.run_goals.specs.Merged.{lowestContested}
-use Rattle.run_goals.proofs.Names.{name-found, name-passed, name-none, name-starts}
+use Rattle.run_goals.proofs.Names.{name-found, name-one, name-passed, name-none, name-starts}
 use Rattle.run_goals.proofs.naming.lowest_contested.Statement.{statement}
 use Rattle.run_goals.proofs.naming.lowest_contested.Tie as tie
 
@@ -24,7 +24,7 @@ shared-slice-read-if1 : tie.Need-shared-slice-read-if1 Inv-loop μ-loop
 shared-slice-read-if1 c = search needs
 
 returns : tie.Need-returns Inv-loop μ-loop
-returns c = search name-found
+returns c = (search name-found, search name-one)
 
 add-v : tie.Need-add-v Inv-loop μ-loop
 add-v c = search needs
@@ -36,7 +36,7 @@ loop-again : tie.Need-loop-again Inv-loop μ-loop
 loop-again c = search name-passed
 
 returns-2 : tie.Need-returns-2 Inv-loop μ-loop
-returns-2 c = search name-none
+returns-2 c = (search name-none, refl)
 
 pub lowest-contested-spec : {M : Type 1} → statement M
 lowest-contested-spec =
