@@ -16,7 +16,7 @@ use Rattle.base.proofs.Stores.{bytes-sets}
 use Rattle.meaning.specs.declared.Form.the-variants.{File}
 use Rattle.meaning.specs.Sizes.{maxValue, noPart, timeLimit}
 use Rattle.meaning.specs.Tree.{Part, size}
-use Rattle.meaning.specs.Program.{variables, clocks, parts, entryAllowed, Within}
+use Rattle.meaning.specs.Program.{variables, clocks, parts, entryAllowed, Within, programRefusal}
 use Rattle.meaning.specs.Table.{tableOf, compiled, isTable}
 use Rattle.meaning.specs.Conditions.{Situation}
 use Rattle.meaning.specs.Record.{waiting, offered, finished, recordBytes, recordLength, rootAllowed, partsAllowed, recordAllowed, clockAllowed}
@@ -29,7 +29,7 @@ use Rattle.meaning.proofs.Records.{Fits, judged, phase-read, time-read, estimat
 use Rattle.meaning.proofs.Refusals.{begin-refused}
 use Rattle.meaning.proofs.Lies.{Lies, root-lies}
 use Rattle.agreement.specs.Unfolding.{Rest, afresh, check, working, settle}
-use Rattle.agreement.specs.Runs.{Call, offer, settling, Reply, refused, goals, running, done, tableReply, tableNext, State, begin, Fed, fed, offering, settled, refusalOf, workingOf, phaseFor, treeNext, treeReply, acceptedReply, settledState, NameAlike, possible, Alike, settlingCount, tableFinishing, treeFinishing, Timed, Demand3}
+use Rattle.agreement.specs.Runs.{Call, offer, settling, Reply, refused, goals, running, done, tableReply, tableNext, State, begin, Fed, fed, offering, settled, refusalOf, workingOf, phaseFor, treeNext, treeReply, acceptedReply, settledState, NameAlike, possible, Alike, settlingCount, tableFinishing, treeFinishing, Timed, RunsAlike}
 use Rattle.agreement.proofs.Contested.{names-contested}
 use Rattle.agreement.proofs.AtWork.{all-working, small-values}
 use Rattle.agreement.proofs.Shapes.{length-marks}
@@ -418,8 +418,9 @@ module _ (v k : ℕ) (p : Part) (w : Within v k p) where
   unfolding beginRefusal
   begin-refusal est room = rw (table, variables-are)
 
-pub demand-3 : Demand3
-demand-3 f est r cs a h =
+-- for every program file that compiling accepts, every first estimate, every record buffer and every list of calls
+pub runs-alike : (f est r : List ℕ) (cs : List Call) → programRefusal File f ≡ 0 → Timed cs → RunsAlike f est r cs
+runs-alike f est r cs a h =
     let x = accepted-file f a in
     let v = variables f in
     let k = clocks f in

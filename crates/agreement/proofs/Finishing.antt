@@ -1,4 +1,4 @@
--- The finishing cycle, as the replies of a run tell it. Both runs count with the same definition (`settlingCount`), so that `demand-3` alone would not notice a wrong one.
+-- The finishing cycle, as the replies of a run tell it. Both runs count with the same definition (`settlingCount`), so that `runs-alike` alone would not notice a wrong one.
 use Prim.Native.Nat.{ℕ, _+_}
 use native.Mathlib.Nat.{add-zero}
 use mathlib.Core.Path.{_≡_, refl}

@@ -1,4 +1,4 @@
--- Demand 3 for the operations: what their contracts promise, call after call, is what the definitions say, and so what `demand-3` speaks of.
+-- Demand 3 for the operations: what their contracts promise, call after call, is what the definitions say, and so what `runs-alike` speaks of.
 use Prim.Native.Nat.{ℕ, zero, suc, _+_, _-_, _≤_, _<_}
 use native.Mathlib.Omega.{arith}
 use mathlib.Core.Path.{_≡_, refl, sym, ap, ap₂, subst, _∙_}
@@ -20,13 +20,13 @@ use Rattle.meaning.specs.Table.{tableOf, compiled, compileRefusal, compiledInto
 use Rattle.meaning.specs.Record.{phaseOf, lastTime, estimateIn, startedIn, startsIn, waiting, finished}
 use Rattle.meaning.specs.Cycle.{contested, Names, rootEnded, settledMarks, beginRefusal, begunInto, offerTests, offerRefusal, offeredGoals, offeredInto, goalsInto, settleTests, settleRefusal, settledInto}
 use Rattle.meaning.specs.Answers.{answered, bufferTooShort, noVariable}
-use Rattle.meaning.specs.Operations.{Begun}
+use Rattle.meaning.specs.Operations.{Compiled, Begun}
 use Rattle.meaning.proofs.Files.{accepted}
 use Rattle.meaning.proofs.Tables.{table-holds, table-accepted, compiled-is}
 use Rattle.meaning.proofs.Refusals.{settled-phase, goal-bytes-into}
 use Rattle.agreement.specs.Runs.{Call, offer, settling, Reply, refused, goals, running, done, reply, settledReply, tableReply, tableNext, tableReplies, tableAfter, tableFinishing, State, begin, fed, treeNext, settlingCount, possible, NameAlike, NamesAlike, Alike, Timed}
-use Rattle.agreement.specs.Calls.{tableIn, Made, offerMade, settlingMade, callOf, recordFrom, Promised, AllPromised, replyOf, NameInAnswer, NamesInAnswers, recordAfter, finishingCycle, CallsAlike, OperationsAlike, OperationsAgree, PromisesKept}
-use Rattle.agreement.proofs.Agreement.{failing-passes, demand-3}
+use Rattle.agreement.specs.Calls.{tableIn, Made, offerMade, settlingMade, callOf, recordFrom, Promised, AllPromised, replyOf, NameInAnswer, NamesInAnswers, recordAfter, finishingCycle, CallsAlike, OperationsAlike, PromisesKept}
+use Rattle.agreement.proofs.Agreement.{failing-passes, runs-alike}
 
 -- the numbers of refusals are below those of the other answers
 offer-below : (t r : List ℕ) (time room : ℕ) → leb answered (offerRefusal t r time room) ≡ false
@@ -176,18 +176,18 @@ module _ (f : List ℕ) where
 
   -- A beginning on the file's table, and the calls after it
   module _ (a : programRefusal File f ≡ 0) (est r : List ℕ) where
-    -- demand 3 for each list of calls speaks of this one tree
+    -- `runs-alike` speaks of this one tree for each list of calls
     program-alike : (cs : List Call) → Timed cs → beginRefusal (compiled File f) est (length r) ≡ 0
         → Alike (compiled File f) (begunInto (compiled File f) est r) (tree a) (variables f) (clocks f) (begin (tree a) (clocks f) est) cs
     program-alike cs h z =
-        let d = demand-3 f est r cs a h in
+        let d = runs-alike f est r cs a h in
         subst (λ (p : Part). Alike (compiled File f) (begunInto (compiled File f) est r) p (variables f) (clocks f) (begin p (clocks f) est) cs)
         (Option·some-injective (d .program) (tree a) (sym (d .tree-is) ∙ accepted File f a .1))
         (d .begun z)
 
     begun-alike : (answer : ℕ) (r' : List ℕ) → Begun (compiled File f) est r answer r' → OperationsAlike f (compiled File f) est r answer r'
     begun-alike answer r' b =
-        let d = demand-3 f est r [] a tt in
+        let d = runs-alike f est r [] a tt in
         record {
           program = tree a;
           tree-is = accepted File f a .1;
@@ -199,7 +199,10 @@ module _ (f : List ℕ) where
               (subst (λ (q : List ℕ). Alike (compiled File f) q (tree a) (variables f) (clocks f) (begin (tree a) (clocks f) est) (map callOf ms)) (sym (b .record-is)) (program-alike (map callOf ms) timed (sym (b .answer-is) ∙ z)));
         }
 
-pub operations-agree : OperationsAgree
+-- whatever compiling, a beginning on the table that it wrote, and calls after that answer and leave within their contracts
+pub operations-agree : (f out : List ℕ) (answer : ℕ) (out' : List ℕ) → Compiled f out answer out' → answer ≡ 0
+    → (est r : List ℕ) (answer' : ℕ) (r' : List ℕ) → Begun (tableIn f out') est r answer' r'
+    → OperationsAlike f (tableIn f out') est r answer' r'
 operations-agree f out answer out' tree-is z est r answer' r' b =
     let h : compileRefusal f (length out) ≡ 0 = sym (tree-is .answer-is) ∙ z in
     let e : tableIn f out' ≡ compiled File f = ap (tableIn f) (tree-is .buffer-is) ∙ read-table f out h in

@@ -14,7 +14,7 @@ use Rattle.meaning.specs.Tree.{Part}
 use Rattle.meaning.specs.Program.{parts, variables, clocks, treeOf}
 use Rattle.meaning.specs.Record.{phaseOf, lastTime, estimateIn, startedIn, startsIn, recordLength, finished}
 use Rattle.meaning.specs.Answers.{answered, bufferTooShort, estimateNotAllowed}
-use Rattle.meaning.specs.Operations.{Compiled, Begun, Offered, Settled}
+use Rattle.meaning.specs.Operations.{Offered, Settled}
 use Rattle.meaning.specs.Cycle.{estimateAllowed}
 use Rattle.agreement.specs.Runs.{Call, offer, settling, Reply, refused, goals, running, done, State, begin, fed, workingOf, offeredState, treeNext, treeReplies, treeAfter, treeFinishing, settlingCount, possible, NamesContested, Timed}
 
@@ -90,14 +90,6 @@ pub record OperationsAlike (f t est r : List ℕ) (answer : ℕ) (r' : List ℕ)
   pub beginning : answer ≡ firstFailing ((estimateNotAllowed, estimateAllowed (variables f) est) ∷ (bufferTooShort, leb recordLength (length r)) ∷ [])
   pub unbegun : (answer ≡ 0 → ⊥) → r' ≡ r
   pub begun : answer ≡ 0 → (ms : List Made) → AllPromised t r' ms → Timed (map callOf ms) → CallsAlike t r' program (variables f) (clocks f) (begin program (clocks f) est) ms
-
--- Demand 3 for the operations: whatever compiling, a beginning on the table that it wrote, and calls after that answer and leave within their
--- contracts is alike with the unfolding, for every file that compiling does not refuse, all buffers, every first estimate and every list of calls
-abbrev pub OperationsAgree : Type 0
-OperationsAgree =
-    (f out : List ℕ) (answer : ℕ) (out' : List ℕ) → Compiled f out answer out' → answer ≡ 0
-    → (est r : List ℕ) (answer' : ℕ) (r' : List ℕ) → Begun (tableIn f out') est r answer' r'
-    → OperationsAlike f (tableIn f out') est r answer' r'
 
 -- The promises can be kept: whatever table, record and calls, there are answers and bytes within the contracts
 abbrev pub PromisesKept : Type 0

@@ -12,7 +12,7 @@ use Rattle.meaning.specs.declared.Entry.{Entry}
 use Rattle.meaning.specs.Sizes.{timeLimit}
 use Rattle.meaning.specs.Tree.{Part}
 use Rattle.meaning.specs.declared.Form.the-variants.{File}
-use Rattle.meaning.specs.Program.{variables, clocks, treeOf, programRefusal}
+use Rattle.meaning.specs.Program.{variables, clocks, treeOf}
 use Rattle.meaning.specs.Table.{compiled}
 use Rattle.meaning.specs.Conditions.{Situation}
 use Rattle.meaning.specs.Record.{phaseOf, lastTime, estimateIn, startedIn, startsIn, recordLength, waiting, offered, finished}
@@ -210,7 +210,7 @@ Timed [] = Unit {0}
 Timed (offer time buffer ∷ cs) = (time < timeLimit) × Timed cs
 Timed (settling est ∷ cs) = Timed cs
 
--- Demand 3 for a program file, a first estimate, a record buffer and a list of calls: the file has a tree; a beginning is refused by 13 or 8
+-- Demand 3 for a program file, a first estimate, a record buffer and a list of calls, by the definitions: the file has a tree; a beginning is refused by 13 or 8
 -- and then writes nothing ("a refused beginning starts neither run"); from one that is not refused on, the two runs are alike
 pub record RunsAlike (f est r : List ℕ) (cs : List Call) : Type 0 where
   pub program : Part
@@ -218,7 +218,3 @@ pub record RunsAlike (f est r : List ℕ) (cs : List Call) : Type 0 where
   pub beginning : beginRefusal (compiled File f) est (length r) ≡ firstFailing ((estimateNotAllowed, estimateAllowed (variables f) est) ∷ (bufferTooShort, leb recordLength (length r)) ∷ [])
   pub unbegun : (beginRefusal (compiled File f) est (length r) ≡ 0 → ⊥) → begunInto (compiled File f) est r ≡ r
   pub begun : beginRefusal (compiled File f) est (length r) ≡ 0 → Alike (compiled File f) (begunInto (compiled File f) est r) program (variables f) (clocks f) (begin program (clocks f) est) cs
-
--- Demand 3: for every program file that compiling accepts, every first estimate, every record buffer and every list of calls
-abbrev pub Demand3 : Type 0
-Demand3 = (f est r : List ℕ) (cs : List Call) → programRefusal File f ≡ 0 → Timed cs → RunsAlike f est r cs

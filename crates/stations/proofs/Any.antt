@@ -18,7 +18,7 @@ use Rattle.meaning.specs.Record.{recordLength}
 use Rattle.meaning.specs.Cycle.{valuesFor, goalBytes, estimateAllowed, beginRefusal}
 use Rattle.agreement.specs.Unfolding.{afresh, check, working, settle}
 use Rattle.agreement.specs.Runs.{treeNext, treeReply, treeFinishing, Timed, RunsAlike}
-use Rattle.agreement.proofs.Agreement.{demand-3}
+use Rattle.agreement.proofs.Agreement.{runs-alike}
 use Rattle.stations.specs.Stations.{Station, finishesWith, offersAt, AnyHold, sameReply, sameReplies, byTable, byTree, holds}
 
 module _ (x : Station) (accepted : programRefusal File (x .file) ≡ 0) (allowed : estimateAllowed (variables (x .file)) (x .first) ≡ true) (timed : Timed (x .calls)) where
@@ -27,7 +27,7 @@ module _ (x : Station) (accepted : programRefusal File (x .file) ≡ 0) (allowed
   buffer = replicate recordLength 9
 
   runs : RunsAlike (x .file) (x .first) buffer (x .calls)
-  runs = demand-3 (x .file) (x .first) buffer (x .calls) accepted timed
+  runs = runs-alike (x .file) (x .first) buffer (x .calls) accepted timed
 
   begins : beginRefusal (compiled File (x .file)) (x .first) recordLength ≡ 0
   begins = runs .beginning ∙ rw allowed

@@ -15,7 +15,7 @@ const PATTERN_SIGNS: [&str; 3] = ["*", "NAME", "target/"];
 /// The layers of the crates, each by the first words of its crates, the lowest first.
 const LAYERS: [&[&str]; 6] = [
     &["base"],
-    &["meaning", "agreement", "sentences", "stations"],
+    &["meaning", "agreement", "sentences", "stations", "demands"],
     &["program"],
     &["run"],
     &["desk"],

@@ -1,0 +1,88 @@
+-- All that is promised: the buyer's three demands, each one statement. The theorems `demand-1` and `demand-3` stand in proofs/.
+-- Of the operations nothing is known here but what their contracts promise (`Operations`): a call is any answer and any bytes that came back as
+-- promised. "No call reads or writes beyond its buffers, overflows or fails to end": that the checker proves of every function of the code.
+use Prim.Native.Nat.{ℕ, _+_, _-_, _≤_, _<_}
+use mathlib.Core.Path.{_≡_}
+use mathlib.Core.Logic.{_⊎_}
+use mathlib.Core.Bool.{Bool, true, false, cond}
+use mathlib.Core.List.{List, [], _∷_, _++_}
+use lib.ListN.{length}
+use lib.Seq.{sets}
+use Rattle.base.specs.Lists.{all}
+use Rattle.meaning.specs.declared.Form.the-variants.{File}
+use Rattle.meaning.specs.Program.{programRefusal}
+use Rattle.meaning.specs.Table.{compiled, compileTests, fileIn, decompileTests}
+use Rattle.meaning.specs.Cycle.{beginTests, freshRecord, Names, offerTests, offeredGoals, offeredRecord, settleTests, settledMarks, settledRecord, rootEnded}
+use Rattle.meaning.specs.Answers.{answered}
+use Rattle.meaning.specs.Operations.{Compiled, Decompiled, Begun, Offered, Settled}
+use Rattle.agreement.specs.Runs.{Call, Timed, RunsAlike}
+use Rattle.agreement.specs.Calls.{tableIn, OperationsAlike, PromisesKept}
+
+-- Demand 1. "If a file, table, run record, estimate or clock reading is not one that document 01 allows, a buffer is too short, or a call comes
+-- out of turn, the call gives that document's refusal and changes no lent byte. Every other call gives its result."
+-- A list of tests has each refusal's number with the test that must pass, in document 01's order
+abbrev pub passes : ℕ × Bool → Bool
+passes test = test .1
+
+-- n is the number of the first test that fails: all before it pass
+pub record FirstFails (tests : List (ℕ × Bool)) (n : ℕ) : Type 0 where
+  pub earlier : List (ℕ × Bool)
+  pub later : List (ℕ × Bool)
+  pub tests-are : tests ≡ earlier ++ ((n, false) ∷ later)
+  pub earlier-pass : all passes earlier ≡ true
+
+-- A call is refused by the first test that fails, and its answer is that number, which is none that another answer has
+pub record RefusedBy (tests : List (ℕ × Bool)) (answer : ℕ) : Type 0 where
+  pub first : FirstFails tests answer
+  pub not-done : 0 < answer
+  pub not-answered : answer < answered
+
+-- refused it changes nothing, and any other call gives its result
+abbrev pub Answers : List (ℕ × Bool) → ℕ → Type 0 → Type 0 → Type 0
+Answers tests answer Unchanged Result = (RefusedBy tests answer × Unchanged) ⊎ ((all passes tests ≡ true) × Result)
+
+-- the result of an offer: 256 and the name of a contested variable, 255 for none, with the record and the goal bytes
+pub record OfferResult (t r : List ℕ) (time : ℕ) (goals : List ℕ) (answer : ℕ) (r' goals' : List ℕ) : Type 0 where
+  pub answer-follows : answered ≤ answer
+  pub names : Names (offeredGoals t r time) (answer - answered)
+  pub record-is : r' ≡ offeredRecord t r time
+  pub goals-are : goals' ≡ sets goals 0 (offeredGoals t r time)
+
+-- "Order: reading 1 to 7, each over all parts, then 8. Back to a file 9, 8. Beginning 9, 13, 8. Offer 9, 10, 14, 11, 12, 8. Settling 9, 10, 14, 11, 13, 15."
+abbrev pub numbers : List (ℕ × Bool) → List ℕ
+numbers [] = []
+numbers (test ∷ tests) = test .0 ∷ numbers tests
+
+pub record Orders : Type 0 where
+  pub reading : (f : List ℕ) (room : ℕ) → numbers (compileTests f room) ≡ 1 ∷ 2 ∷ 3 ∷ 4 ∷ 5 ∷ 6 ∷ 7 ∷ 8 ∷ []
+  pub back-to-a-file : (t : List ℕ) (room : ℕ) → numbers (decompileTests t room) ≡ 9 ∷ 8 ∷ []
+  pub beginning : (t est : List ℕ) (room : ℕ) → numbers (beginTests t est room) ≡ 9 ∷ 13 ∷ 8 ∷ []
+  pub offer : (t r : List ℕ) (time room : ℕ) → numbers (offerTests t r time room) ≡ 9 ∷ 10 ∷ 14 ∷ 11 ∷ 12 ∷ 8 ∷ []
+  pub settling : (t r est : List ℕ) → numbers (settleTests t r est) ≡ 9 ∷ 10 ∷ 14 ∷ 11 ∷ 13 ∷ 15 ∷ []
+
+pub record Demand1 : Type 0 where
+  pub orders : Orders
+  pub compiles : (f out : List ℕ) (answer : ℕ) (out' : List ℕ) → Compiled f out answer out'
+      → Answers (compileTests f (length out)) answer (out' ≡ out) ((answer ≡ 0) × (out' ≡ sets out 0 (compiled File f)))
+  pub decompiles : (t out : List ℕ) (answer : ℕ) (out' : List ℕ) → Decompiled t out answer out'
+      → Answers (decompileTests t (length out)) answer (out' ≡ out) ((answer ≡ 0) × (out' ≡ sets out 0 (fileIn t)))
+  pub begins : (t est r : List ℕ) (answer : ℕ) (r' : List ℕ) → Begun t est r answer r'
+      → Answers (beginTests t est (length r)) answer (r' ≡ r) ((answer ≡ 0) × (r' ≡ sets r 0 (freshRecord t est)))
+  pub offers : (t r : List ℕ) (time : ℕ) (goals : List ℕ) (answer : ℕ) (r' goals' : List ℕ) → Offered t r time goals answer r' goals'
+      → Answers (offerTests t r time (length goals)) answer ((r' ≡ r) × (goals' ≡ goals)) (OfferResult t r time goals answer r' goals')
+  -- 257 where the root has ended ("finished"), else 256 ("running")
+  pub settles : (t r est : List ℕ) (answer : ℕ) (r' : List ℕ) → Settled t r est answer r'
+      → Answers (settleTests t r est) answer (r' ≡ r) ((answer ≡ cond (rootEnded (settledMarks t r est)) (answered + 1) answered) × (r' ≡ settledRecord t r est))
+
+-- Demand 3. "Run one program twice from the same first estimate, once stepped by its table and once by unfolding its tree part by part with no
+-- table, and the two are alike": for every program file that compiling accepts, every first estimate, all buffers and every list of calls, whose
+-- times have 32 bits
+pub record Demand3 : Type 0 where
+  -- by the definitions
+  pub runs : (f est r : List ℕ) (cs : List Call) → programRefusal File f ≡ 0 → Timed cs → RunsAlike f est r cs
+  -- by the operations: whatever compiling, a beginning on the table that it wrote, and calls after that answer and leave
+  pub operations : (f out : List ℕ) (answer : ℕ) (out' : List ℕ) → Compiled f out answer out' → answer ≡ 0
+      → (est r : List ℕ) (answer' : ℕ) (r' : List ℕ) → Begun (tableIn f out') est r answer' r'
+      → OperationsAlike f (tableIn f out') est r answer' r'
+  -- and there always are such answers and bytes
+  pub kept : PromisesKept
