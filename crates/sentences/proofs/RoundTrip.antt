@@ -10,15 +10,16 @@ use lib.ListN.{length, drop}
 use lib.Seq.{sets}
 use borrow.Author.Tests.{leb-true, le-leb}
 use Rattle.base.specs.Lists.{firstFailing, bytesAt}
-use Rattle.base.proofs.Lists.{Passed, none-fails, passed, fails-append}
+use Rattle.base.proofs.Lists.{Passed, none-fails, passed}
 use Rattle.base.proofs.Stores.{bytes-front, sets-start}
 use Rattle.meaning.specs.declared.Form.the-variants.{File, Table}
 use Rattle.meaning.specs.Sizes.{lengthOf}
 use Rattle.meaning.specs.Program.{parts, programTests, programRefusal}
-use Rattle.meaning.specs.Table.{compiled, fileIn, isTable, compileRefusal, compiledInto, decompileRefusal, decompiledInto}
+use Rattle.meaning.specs.Table.{compiled, fileIn, isTable, roomTest, compileTests, compileRefusal, compiledInto, decompileTests, decompileRefusal, decompiledInto}
 use Rattle.meaning.specs.Answers.{bufferTooShort, notATable}
 use Rattle.meaning.proofs.Files.{accepted}
 use Rattle.meaning.proofs.Tables.{file-back, table-of-file, table-held}
+use Rattle.meaning.proofs.Refusals.{compile-first}
 use Rattle.sentences.specs.RoundTrip.{frontOf, restOf, Gives, FilesComeBack, TablesComeBack, Inverses}
 
 -- tests in two lists that all pass, and so do those of each
@@ -28,16 +29,12 @@ passed-both (x ∷ xs) ys h =
     let r = passed-both xs ys (h .1) in
     ((h .0, r .0), r .1)
 
--- the test for room, which compiling makes last
-abbrev roomFor : ℕ → ℕ → List (ℕ × Bool)
-roomFor n room = (bufferTooShort, leb n room) ∷ []
-
 -- compiling is not refused exactly where the file is accepted and there is room for the table
 pub compile-accepts : (f : List ℕ) (room : ℕ) → (compileRefusal f room ≡ 0) ↔ ((programRefusal File f ≡ 0) × (lengthOf Table (parts f) ≤ room))
 unfolding compileRefusal programRefusal
 compile-accepts f room = (
   λ h.
-      let tests = passed-both (programTests File f) (roomFor (lengthOf Table (parts f)) room) (none-fails (programTests File f ++ roomFor (lengthOf Table (parts f)) room) refl (fails-append (programTests File f) (roomFor (lengthOf Table (parts f)) room) refl ∙ h)) in
+      let tests = passed-both (programTests File f) (roomTest Table f room) (none-fails (compileTests f room) refl (sym (compile-first f room) ∙ h)) in
       (passed (programTests File f) (tests .0), leb-true (lengthOf Table (parts f)) room (tests .1 .0)),
   λ x. rw (x .0, le-leb (lengthOf Table (parts f)) room (x .1)),
 )
@@ -47,7 +44,7 @@ pub decompile-accepts : (t : List ℕ) (room : ℕ) → (decompileRefusal t room
 unfolding decompileRefusal
 decompile-accepts t room = (
   λ h.
-      let tests = none-fails ((notATable, isTable t) ∷ roomFor (lengthOf File (parts t)) room) refl h in
+      let tests = none-fails (decompileTests t room) refl h in
       (tests .0, leb-true (lengthOf File (parts t)) room (tests .1 .0)),
   λ x. rw (x .0, le-leb (lengthOf File (parts t)) room (x .1)),
 )
@@ -120,7 +117,7 @@ module _ (f t : List ℕ) (g : Gives f t) (n : ℕ) (n-is : parts f ≡ n) where
 
 -- a file that was read is given back
 back-file : FilesComeBack
-back-file f out answer out' c z back answer' back' a b l =
+back-file f out answer out' c z back answer' back' d l =
     let n : ℕ = parts f in
     let x = compile-accepts f (length out) .0 (sym (c .answer-is) ∙ z) in
     let g : Gives f (compiled File f) = record { accepted = x .0; table-is = refl } in
@@ -128,15 +125,15 @@ back-file f out answer out' c z back answer' back' a b l =
     let e : frontOf Table n out' ≡ compiled File f = front-is (compiled File f) (restOf Table n out) out' (lengthOf Table n) (table-long f (compiled File f) g n refl) o in
     let given : Gives f (frontOf Table n out') = rw e g in
     let v = decompiled-out f (frontOf Table n out') given n refl back l in
-    record { table-given = given; further-out = rw e o; done = a ∙ v .0; file-is = b ∙ v .1 }
+    record { table-given = given; further-out = rw e o; done = d .answer-is ∙ v .0; file-is = d .buffer-is ∙ v .1 }
 
 -- and the file that a table was given back as gives that table
 back-table : TablesComeBack
-back-table t back answer back' a b z out answer' out' c l =
+back-table t back answer back' d z out answer' out' c l =
     let n : ℕ = parts t in
-    let x = decompile-accepts t (length back) .0 (sym a ∙ z) in
+    let x = decompile-accepts t (length back) .0 (sym (d .answer-is) ∙ z) in
     let g : Gives (fileIn t) t = table-gives t (x .0) in
-    let o : back' ≡ fileIn t ++ restOf File n back = b ∙ decompiled-out (fileIn t) t g n (sym (given-parts (fileIn t) t g)) back (x .1) .1 in
+    let o : back' ≡ fileIn t ++ restOf File n back = d .buffer-is ∙ decompiled-out (fileIn t) t g n (sym (given-parts (fileIn t) t g)) back (x .1) .1 in
     let e : frontOf File n back' ≡ fileIn t = front-is (fileIn t) (restOf File n back) back' (lengthOf File n) (file-long (fileIn t) t g n (sym (given-parts (fileIn t) t g))) o in
     let gives : Gives (frontOf File n back') t = rw e g in
     let v = compiled-out (frontOf File n back') t gives n (sym (given-parts (frontOf File n back') t gives)) out l in

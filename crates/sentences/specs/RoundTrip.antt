@@ -10,9 +10,9 @@ use Rattle.meaning.specs.declared.Form.{Form}
 use Rattle.meaning.specs.declared.Form.the-variants.{File, Table}
 use Rattle.meaning.specs.Sizes.{lengthOf}
 use Rattle.meaning.specs.Program.{parts, programRefusal}
-use Rattle.meaning.specs.Table.{compiled, fileIn, isTable, decompileRefusal, decompiledInto}
+use Rattle.meaning.specs.Table.{compiled, fileIn, isTable, decompileRefusal}
 use Rattle.meaning.specs.Answers.{notATable}
-use Rattle.meaning.specs.Operations.{Compiled}
+use Rattle.meaning.specs.Operations.{Compiled, Decompiled}
 
 -- What stands at the front of a buffer into which a file or a table of n parts is written, and its further bytes
 abbrev pub frontOf : Form → ℕ → List ℕ → List ℕ
@@ -45,13 +45,13 @@ pub record TableBack (t back back' out : List ℕ) (answer : ℕ) (out' : List �
 abbrev pub FilesComeBack : Type 0
 FilesComeBack =
     (f out : List ℕ) (answer : ℕ) (out' : List ℕ) → Compiled f out answer out' → answer ≡ 0
-    → (back : List ℕ) (answer' : ℕ) (back' : List ℕ) → answer' ≡ decompileRefusal (frontOf Table (parts f) out') (length back) → back' ≡ decompiledInto (frontOf Table (parts f) out') back
+    → (back : List ℕ) (answer' : ℕ) (back' : List ℕ) → Decompiled (frontOf Table (parts f) out') back answer' back'
     → lengthOf File (parts f) ≤ length back → FileBack f out out' back answer' back'
 
 -- and the file that a table was given back as gives that table, where there is room for it
 abbrev pub TablesComeBack : Type 0
 TablesComeBack =
-    (t back : List ℕ) (answer : ℕ) (back' : List ℕ) → answer ≡ decompileRefusal t (length back) → back' ≡ decompiledInto t back → answer ≡ 0
+    (t back : List ℕ) (answer : ℕ) (back' : List ℕ) → Decompiled t back answer back' → answer ≡ 0
     → (out : List ℕ) (answer' : ℕ) (out' : List ℕ) → Compiled (frontOf File (parts t) back') out answer' out'
     → lengthOf Table (parts t) ≤ length out → TableBack t back back' out answer' out'
 
