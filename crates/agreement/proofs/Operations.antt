@@ -29,7 +29,7 @@ use Rattle.agreement.specs.Calls.{tableIn, Made, offerMade, settlingMade
 use Rattle.agreement.proofs.Agreement.{failing-passes, runs-alike}
 
 -- the numbers of refusals are below those of the other answers
-offer-below : (t r : List ℕ) (time room : ℕ) → leb answered (offerRefusal t r time room) ≡ false
+pub offer-below : (t r : List ℕ) (time room : ℕ) → leb answered (offerRefusal t r time room) ≡ false
 unfolding offerRefusal
 offer-below t r time room = not-true (leb answered (offerRefusal t r time room)) (failing-passes (λ n. not (leb answered n)) (offerTests t r time room) refl refl)
 
@@ -60,7 +60,7 @@ settle-reply n phase b ends l answer a = rw a (go (eqb n 0) refl)
     go false e = rw l
 
 -- One call: what it tells is the table's reply, and the record that it leaves the table's next
-phase-settled : (t r est : List ℕ) → settleRefusal t r est ≡ 0 → phaseOf (settledInto t r est) ≡ cond (rootEnded (settledMarks t r est)) finished waiting
+pub phase-settled : (t r est : List ℕ) → settleRefusal t r est ≡ 0 → phaseOf (settledInto t r est) ≡ cond (rootEnded (settledMarks t r est)) finished waiting
 unfolding settledInto
 phase-settled t r est h = rw h (settled-phase t r est h)
 
@@ -76,7 +76,7 @@ leaves t r (offerMade time buffer answer r' buffer') h = h .record-is
 leaves t r (settlingMade est answer r') h = h .record-is
 
 -- an answer of 256 or more is no refusal
-not-refused : (n answer : ℕ) → ((n ≡ 0 → ⊥) → answer ≡ n) → leb answered n ≡ false → answered ≤ answer → n ≡ 0
+pub not-refused : (n answer : ℕ) → ((n ≡ 0 → ⊥) → answer ≡ n) → leb answered n ≡ false → answered ≤ answer → n ≡ 0
 not-refused n answer refuses l a = go (eqb n 0) refl
   where
     go : (b : Bool) → eqb n 0 ≡ b → n ≡ 0
@@ -168,7 +168,7 @@ module _ (f : List ℕ) where
         rw compiled-tree (held .length-is ∙ ap (lengthOf Table) (held .parts-are ∙ sym (accepted File f a .2 .parts-are)))
 
   -- the buffer that compiling leaves begins with the file's table
-  read-table : (out : List ℕ) → compileRefusal f (length out) ≡ 0 → tableIn f (compiledInto f out) ≡ compiled File f
+  pub read-table : (out : List ℕ) → compileRefusal f (length out) ≡ 0 → tableIn f (compiledInto f out) ≡ compiled File f
   unfolding compiledInto
   read-table out h =
       let x = read-accepted (length out) h in

@@ -1,24 +1,30 @@
 -- The three demands.
-use Prim.Native.Nat.{ℕ, _+_}
+use Prim.Native.Nat.{ℕ, _+_, _≤_, _<_}
 use native.Mathlib.Omega.{arith}
-use mathlib.Core.Path.{_≡_, refl, ap, _∙_}
-use mathlib.Core.Logic.{_⊎_, inl, inr}
-use mathlib.Core.Bool.{Bool, true, false, cond, _&&_}
+use mathlib.Core.Path.{_≡_, refl, sym, ap, _∙_}
+use mathlib.Core.Logic.{_⊎_, inl, inr, _↔_, Iff·trans}
+use mathlib.Core.Bool.{Bool, true, false, cond, not, _&&_, false≢true}
 use mathlib.Core.List.{List, [], _∷_}
 use lib.Dec.{eqb, ltb, leb}
-use lib.ListN.{length}
+use lib.ListN.{length, getD, drop}
 use lib.Seq.{sets}
-use borrow.Author.Tests.{ltb-true, leb-true, ne-eqb}
+use borrow.Author.Tests.{ltb-true, leb-true, eqb-true, eqb-false, ne-eqb, not-true}
 use Rattle.base.specs.Lists.{all, flag, firstFailing}
 use Rattle.base.proofs.Lists.{and-left, and-right}
 use Rattle.meaning.specs.declared.Form.the-variants.{File}
-use Rattle.meaning.specs.Table.{compiled, compileTests, compileRefusal, compiledInto, fileIn, decompileTests, decompileRefusal, decompiledInto}
+use Rattle.meaning.specs.Sizes.{byteValues}
+use Rattle.meaning.specs.Table.{compiled, compileTests, compileRefusal, compiledInto, fileIn, isTable, decompileTests, decompileRefusal, decompiledInto}
+use Rattle.meaning.specs.Record.{waiting, finished}
 use Rattle.meaning.specs.Cycle.{beginTests, beginRefusal, freshRecord, begunInto, offerTests, offerRefusal, offeredInto, goalsInto, settleTests, settleRefusal, settledMarks, settledInto, rootEnded}
-use Rattle.meaning.specs.Answers.{answered}
-use Rattle.meaning.proofs.Refusals.{compile-first, offer-refused, goals-refused, settle-refused}
-use Rattle.agreement.proofs.Agreement.{runs-alike}
-use Rattle.agreement.proofs.Operations.{operations-agree, promises-kept}
-use Rattle.demands.specs.Demands.{passes, RefusedBy, Answers, Demand1, Demand3}
+use Rattle.meaning.specs.Answers.{answered, notATable}
+use Rattle.meaning.proofs.Refusals.{compile-first, goal-bytes-into, offer-refused, goals-refused, settle-refused}
+use Rattle.agreement.specs.Calls.{tableIn}
+use Rattle.agreement.proofs.Agreement.{failing-passes, runs-alike}
+use Rattle.agreement.proofs.Operations.{offer-below, settle-below, phase-settled, not-refused, read-table, operations-agree, promises-kept}
+use Rattle.sentences.proofs.OneTable.{reading-lays-down}
+use Rattle.sentences.proofs.RoundTrip.{compile-accepts, inverses}
+use Rattle.sentences.proofs.Stepping.{beginning-steps, offer-steps, settling-steps}
+use Rattle.demands.specs.Demands.{passes, RefusedBy, Answers, NoFile, SettlingStepped, Demand1, Demand2, Demand3}
 
 -- Demand 1. Each number of a list is a refusal's: not 0, and below those of the other answers
 abbrev isRefusal : ℕ × Bool → Bool
@@ -69,7 +75,14 @@ module _ (tests : List (ℕ × Bool)) (numbered : all isRefusal tests ≡ true) 
   answers-into : (new old written : List ℕ) → answer ≡ n → written ≡ cond (eqb n 0) new old → Answers tests answer (written ≡ old) ((answer ≡ 0) × (written ≡ new))
   answers-into new old written a w = answers (λ h. (a, w ∙ rw (ne-eqb n 0 h))) (λ z. (a ∙ z, w ∙ rw z))
 
--- what a settling answers that is not refused
+-- what a settling answers: its refusal's number, else 256 or 257
+module _ (t r est : List ℕ) (answer : ℕ) (a : answer ≡ cond (eqb (settleRefusal t r est) 0) (answered + flag (rootEnded (settledMarks t r est))) (settleRefusal t r est)) where
+  settling-refused : (settleRefusal t r est ≡ 0 → ⊥) → answer ≡ settleRefusal t r est
+  settling-refused h = a ∙ rw (ne-eqb (settleRefusal t r est) 0 h)
+
+  settling-answered : settleRefusal t r est ≡ 0 → answer ≡ answered + flag (rootEnded (settledMarks t r est))
+  settling-answered z = a ∙ rw z
+
 settling-told : (b : Bool) → answered + flag b ≡ cond b (answered + 1) answered
 settling-told true = refl
 settling-told false = refl
@@ -106,8 +119,80 @@ demand-1 =
       settles =
           λ t r est answer r' s.
           answers (settleTests t r est) refl (settleRefusal t r est) refl answer
-          (λ h. (s .answer-is ∙ rw (ne-eqb (settleRefusal t r est) 0 h), s .record-is ∙ settle-refused t r est h))
-          (λ z. (s .answer-is ∙ rw z (settling-told (rootEnded (settledMarks t r est))), s .record-is ∙ rw z));
+          (λ h. (settling-refused t r est answer (s .answer-is) h, s .record-is ∙ settle-refused t r est h))
+          (λ z. (settling-answered t r est answer (s .answer-is) z ∙ settling-told (rootEnded (settledMarks t r est)), s .record-is ∙ rw z));
+    }
+
+-- Demand 2. The first of the tests is that of a table, and no other has its number
+nine-first : (b : Bool) (rest : List (ℕ × Bool)) → all (λ u. not (eqb (u .0) notATable)) rest ≡ true → (firstFailing ((notATable, b) ∷ rest) ≡ notATable) ↔ (b ≡ false)
+nine-first true rest h = (
+  λ e. absurd (eqb-false (firstFailing rest) notATable (not-true (eqb (firstFailing rest) notATable) (failing-passes (λ n. not (eqb n notATable)) rest refl h)) e),
+  λ e. absurd (false≢true (sym e)),
+)
+nine-first false rest h = (λ e. refl, λ e. refl)
+
+-- An answer that tells refusal n, where there is one, is 9 exactly where n is
+told-nine : (n answer : ℕ) → ((n ≡ 0 → ⊥) → answer ≡ n) → (n ≡ 0 → answer ≡ notATable → ⊥) → (answer ≡ notATable) ↔ (n ≡ notATable)
+told-nine n answer refused done = (go (eqb n 0) refl, λ e. refused (λ z. omega (arith, e, z)) ∙ e)
+  where
+    go : (b : Bool) → eqb n 0 ≡ b → answer ≡ notATable → n ≡ notATable
+    go true z e = absurd (done (eqb-true n 0 z) e)
+    go false z e = sym (refused (eqb-false n 0 z)) ∙ e
+
+-- a call whose first test is that of a table: 9 is its refusal exactly where no file gives the table
+module _ (t : List ℕ) (tests : List (ℕ × Bool)) (first : tests ≡ (notATable, isTable t) ∷ drop 1 tests) (others : all (λ u. not (eqb (u .0) notATable)) (drop 1 tests) ≡ true) where
+  refuses : (n answer : ℕ) → n ≡ firstFailing tests → ((n ≡ 0 → ⊥) → answer ≡ n) → (n ≡ 0 → answer ≡ notATable → ⊥) → (answer ≡ notATable) ↔ NoFile t
+  refuses n answer n-is refused done =
+      Iff·trans (told-nine n answer refused done) (Iff·trans (rw (n-is ∙ ap firstFailing first) (nine-first (isTable t) (drop 1 tests) others)) (inverses .none-gives t))
+
+  -- where the answer is the refusal's number or 0, and where it is that number or one from 256 on
+  refuses-or-0 : (answer : ℕ) → answer ≡ firstFailing tests → (answer ≡ notATable) ↔ NoFile t
+  refuses-or-0 answer a = refuses answer answer a (λ h. refl) (λ z e. omega (arith, z, e))
+
+  refuses-or-more : (n answer : ℕ) → n ≡ firstFailing tests → ((n ≡ 0 → ⊥) → answer ≡ n) → (n ≡ 0 → answered ≤ answer) → (answer ≡ notATable) ↔ NoFile t
+  refuses-or-more n answer n-is refused done = refuses n answer n-is refused (λ z e. omega (arith, done z, e))
+
+-- A settling that is not refused: what its answer tells is what the stepping says of the root
+same-phase : (a b : Bool) → cond a finished waiting ≡ cond b finished waiting → a ≡ b
+same-phase true true e = refl
+same-phase true false e = absurd (omega arith)
+same-phase false true e = absurd (omega arith)
+same-phase false false e = refl
+
+settling-stepped : (t r est : List ℕ) (answer : ℕ) → settleRefusal t r est ≡ 0 → ((i : ℕ) → getD r i 0 < byteValues) → answer ≡ answered + flag (rootEnded (settledMarks t r est))
+    → SettlingStepped t r est answer (settledInto t r est)
+settling-stepped t r est answer z bytes a =
+    let s = settling-steps t r est z bytes in
+    let root : rootEnded (settledMarks t r est) ≡ s .ends 0 = same-phase (rootEnded (settledMarks t r est)) (s .ends 0) (sym (phase-settled t r est z) ∙ s .phase-settled) in
+    record { steps = s; tells = a ∙ (settling-told (rootEnded (settledMarks t r est)) ∙ rw root) }
+
+pub demand-2 : Demand2
+unfolding decompileRefusal beginRefusal offerRefusal settleRefusal
+demand-2 =
+    record {
+      reads =
+          λ f out answer out' c z t.
+          let h : compileRefusal f (length out) ≡ 0 = sym (c .answer-is) ∙ z in
+          let e : tableIn f out' ≡ compiled File f = ap (tableIn f) (c .buffer-is) ∙ read-table f out h in
+          rw e (reading-lays-down f t (compile-accepts f (length out) .0 h .0));
+      inverses = inverses;
+      decompile-refuses = λ t out answer out' d. refuses-or-0 t (decompileTests t (length out)) refl refl answer (d .answer-is);
+      begin-refuses = λ t est r answer r' b. refuses-or-0 t (beginTests t est (length r)) refl refl answer (b .answer-is);
+      offer-refuses =
+          λ t r time goals answer r' goals' o.
+          refuses-or-more t (offerTests t r time (length goals)) refl refl (offerRefusal t r time (length goals)) answer refl (o .refusal-is) (o .answer-follows);
+      settle-refuses =
+          λ t r est answer r' s.
+          refuses-or-more t (settleTests t r est) refl refl (settleRefusal t r est) answer refl (settling-refused t r est answer (s .answer-is)) (λ z. rw (settling-answered t r est answer (s .answer-is) z) (omega arith));
+      begin-steps = λ t est r answer r' b z. rw (b .record-is) (beginning-steps t est r (sym (b .answer-is) ∙ z));
+      offer-steps =
+          λ t r time goals answer r' goals' o a fits.
+          let z = not-refused (offerRefusal t r time (length goals)) answer (o .refusal-is) (offer-below t r time (length goals)) a in
+          record { steps = rw (o .record-is, o .goals-are) (offer-steps t r time goals z fits); names = rw (o .goals-are, goal-bytes-into t r time goals z .0) (o .names z) };
+      settle-steps =
+          λ t r est answer r' s a bytes.
+          let z = not-refused (settleRefusal t r est) answer (settling-refused t r est answer (s .answer-is)) (settle-below t r est) a in
+          rw (s .record-is) (settling-stepped t r est answer z bytes (settling-answered t r est answer (s .answer-is) z));
     }
 
 -- Demand 3

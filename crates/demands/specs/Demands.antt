@@ -1,22 +1,26 @@
--- All that is promised: the buyer's three demands, each one statement. The theorems `demand-1` and `demand-3` stand in proofs/.
+-- All that is promised: the buyer's three demands, each one statement. The theorems `demand-1`, `demand-2` and `demand-3` stand in proofs/.
 -- Of the operations nothing is known here but what their contracts promise (`Operations`): a call is any answer and any bytes that came back as
 -- promised. "No call reads or writes beyond its buffers, overflows or fails to end": that the checker proves of every function of the code.
 use Prim.Native.Nat.{ℕ, _+_, _-_, _≤_, _<_}
 use mathlib.Core.Path.{_≡_}
-use mathlib.Core.Logic.{_⊎_}
+use mathlib.Core.Logic.{_⊎_, _↔_}
 use mathlib.Core.Bool.{Bool, true, false, cond}
 use mathlib.Core.List.{List, [], _∷_, _++_}
-use lib.ListN.{length}
+use lib.ListN.{length, getD}
 use lib.Seq.{sets}
-use Rattle.base.specs.Lists.{all}
+use Rattle.base.specs.Lists.{all, bytesAt}
 use Rattle.meaning.specs.declared.Form.the-variants.{File}
-use Rattle.meaning.specs.Program.{programRefusal}
+use Rattle.meaning.specs.Sizes.{byteValues, timeLimit}
+use Rattle.meaning.specs.Program.{variables, programRefusal}
 use Rattle.meaning.specs.Table.{compiled, compileTests, fileIn, decompileTests}
 use Rattle.meaning.specs.Cycle.{beginTests, freshRecord, Names, offerTests, offeredGoals, offeredRecord, settleTests, settledMarks, settledRecord, rootEnded}
-use Rattle.meaning.specs.Answers.{answered}
+use Rattle.meaning.specs.Answers.{answered, notATable}
 use Rattle.meaning.specs.Operations.{Compiled, Decompiled, Begun, Offered, Settled}
 use Rattle.agreement.specs.Runs.{Call, Timed, RunsAlike}
 use Rattle.agreement.specs.Calls.{tableIn, OperationsAlike, PromisesKept}
+use Rattle.sentences.specs.Rows.{LaidDown}
+use Rattle.sentences.specs.RoundTrip.{Gives, Inverses}
+use Rattle.sentences.specs.Stepping.{BeginningSteps, OfferSteps, SettlingSteps}
 
 -- Demand 1. "If a file, table, run record, estimate or clock reading is not one that document 01 allows, a buffer is too short, or a call comes
 -- out of turn, the call gives that document's refusal and changes no lent byte. Every other call gives its result."
@@ -31,7 +35,7 @@ pub record FirstFails (tests : List (ℕ × Bool)) (n : ℕ) : Type 0 where
   pub tests-are : tests ≡ earlier ++ ((n, false) ∷ later)
   pub earlier-pass : all passes earlier ≡ true
 
--- A call is refused by the first test that fails, and its answer is that number, which is none that another answer has
+-- A call is refused by the first test that fails: its answer is that test's number, which is not 0 and below 256, as no other answer is
 pub record RefusedBy (tests : List (ℕ × Bool)) (answer : ℕ) : Type 0 where
   pub first : FirstFails tests answer
   pub not-done : 0 < answer
@@ -73,6 +77,41 @@ pub record Demand1 : Type 0 where
   -- 257 where the root has ended ("finished"), else 256 ("running")
   pub settles : (t r est : List ℕ) (answer : ℕ) (r' : List ℕ) → Settled t r est answer r'
       → Answers (settleTests t r est) answer (r' ≡ r) ((answer ≡ cond (rootEnded (settledMarks t r est)) (answered + 1) answered) × (r' ≡ settledRecord t r est))
+
+-- Demand 2. "Reading a program gives the table that document 01 lays down, the table gives that file back, and a table that no file gives is refused.
+-- Each cycle over a table offers goals, starts clocks and ends parts as the stepping procedure of Ingham and Williams does", as document 01 reads it
+-- no program file gives these bytes for its table
+abbrev pub NoFile : List ℕ → Type 0
+NoFile t = (f : List ℕ) → Gives f t → ⊥
+
+-- an offer's record and goal bytes follow from the stepping; its answer names one contested variable, or 255 exactly where none is contested
+pub record OfferStepped (t r : List ℕ) (time : ℕ) (goals : List ℕ) (answer : ℕ) (r' goals' : List ℕ) : Type 0 where
+  pub steps : OfferSteps t r time goals r' goals'
+  pub names : Names (bytesAt goals' 0 (variables t)) (answer - answered)
+
+-- so does a settling's record; its answer says whether the root has ended: 257 ("finished"), else 256 ("running")
+pub record SettlingStepped (t r est : List ℕ) (answer : ℕ) (r' : List ℕ) : Type 0 where
+  pub steps : SettlingSteps t r est r'
+  pub tells : answer ≡ cond (steps .ends 0) (answered + 1) answered
+
+pub record Demand2 : Type 0 where
+  -- reading: of all bytes that hold the file, those that compiling leaves are laid down as a table, and no others are
+  pub reads : (f out : List ℕ) (answer : ℕ) (out' : List ℕ) → Compiled f out answer out' → answer ≡ 0
+      → (t : List ℕ) → (tableIn f out' ≡ t) ↔ ((fileIn t ≡ f) × LaidDown t)
+  -- reading, giving back and the table check are one another's inverses, and the further bytes of both buffers stay
+  pub inverses : Inverses
+  -- a table that no file gives is refused by 9, and only such, whichever operation it is given to
+  pub decompile-refuses : (t out : List ℕ) (answer : ℕ) (out' : List ℕ) → Decompiled t out answer out' → (answer ≡ notATable) ↔ NoFile t
+  pub begin-refuses : (t est r : List ℕ) (answer : ℕ) (r' : List ℕ) → Begun t est r answer r' → (answer ≡ notATable) ↔ NoFile t
+  pub offer-refuses : (t r : List ℕ) (time : ℕ) (goals : List ℕ) (answer : ℕ) (r' goals' : List ℕ) → Offered t r time goals answer r' goals'
+      → (answer ≡ notATable) ↔ NoFile t
+  pub settle-refuses : (t r est : List ℕ) (answer : ℕ) (r' : List ℕ) → Settled t r est answer r' → (answer ≡ notATable) ↔ NoFile t
+  -- each beginning, offer and settling that is not refused is the stepping, where times have 32 bits and a record is made of bytes
+  pub begin-steps : (t est r : List ℕ) (answer : ℕ) (r' : List ℕ) → Begun t est r answer r' → answer ≡ 0 → BeginningSteps t est r r'
+  pub offer-steps : (t r : List ℕ) (time : ℕ) (goals : List ℕ) (answer : ℕ) (r' goals' : List ℕ) → Offered t r time goals answer r' goals'
+      → answered ≤ answer → time < timeLimit → OfferStepped t r time goals answer r' goals'
+  pub settle-steps : (t r est : List ℕ) (answer : ℕ) (r' : List ℕ) → Settled t r est answer r'
+      → answered ≤ answer → ((i : ℕ) → getD r i 0 < byteValues) → SettlingStepped t r est answer r'
 
 -- Demand 3. "Run one program twice from the same first estimate, once stepped by its table and once by unfolding its tree part by part with no
 -- table, and the two are alike": for every program file that compiling accepts, every first estimate, all buffers and every list of calls, whose
