@@ -10,17 +10,22 @@ use lib.ListN.{length, getD, drop}
 use lib.Seq.{sets}
 use borrow.Author.Tests.{ltb-true, leb-true, eqb-true, eqb-false, ne-eqb, not-true}
 use Rattle.base.specs.Lists.{all, flag, firstFailing}
+use Rattle.base.proofs.Facts.{both, at-most, equal, all-facts}
 use Rattle.base.proofs.Lists.{and-left, and-right}
 use Rattle.meaning.specs.declared.Form.the-variants.{File}
-use Rattle.meaning.specs.Sizes.{byteValues}
+use Rattle.meaning.specs.Sizes.{maxValue, byteValues}
+use Rattle.meaning.specs.Tree.{Part}
+use Rattle.meaning.specs.Program.{variables, clocks, programTests, programRefusal, Within, fileOf}
 use Rattle.meaning.specs.Table.{compiled, compileTests, compileRefusal, compiledInto, fileIn, isTable, decompileTests, decompileRefusal, decompiledInto}
 use Rattle.meaning.specs.Record.{waiting, finished}
-use Rattle.meaning.specs.Cycle.{beginTests, beginRefusal, freshRecord, begunInto, offerTests, offerRefusal, offeredInto, goalsInto, settleTests, settleRefusal, settledMarks, settledInto, rootEnded}
+use Rattle.meaning.specs.Cycle.{estimateAllowed, beginTests, beginRefusal, freshRecord, begunInto, offerTests, offerRefusal, offeredInto, goalsInto, settleTests, settleRefusal, settledMarks, settledInto, rootEnded}
 use Rattle.meaning.specs.Answers.{answered, notATable}
+use Rattle.meaning.proofs.Files.{accepted-file, file-accepted}
 use Rattle.meaning.proofs.Refusals.{compile-first, goal-bytes-into, offer-refused, goals-refused, settle-refused}
 use Rattle.agreement.specs.Calls.{tableIn}
 use Rattle.agreement.proofs.Agreement.{failing-passes, runs-alike}
 use Rattle.agreement.proofs.Operations.{offer-below, settle-below, phase-settled, not-refused, read-table, operations-agree, promises-kept}
+use Rattle.sentences.proofs.AllowedRecords.{exactly-allowed}
 use Rattle.sentences.proofs.OneTable.{reading-lays-down}
 use Rattle.sentences.proofs.RoundTrip.{compile-accepts, inverses}
 use Rattle.sentences.proofs.Stepping.{beginning-steps, offer-steps, settling-steps}
@@ -60,6 +65,28 @@ decided ((n, false) ∷ us) h =
       not-answered = ltb-true n answered (and-right (leb 1 n) (ltb n answered) own);
     })
 
+-- none fails exactly where the first that fails has number 0
+none-failing : (tests : List (ℕ × Bool)) → all isRefusal tests ≡ true → (all passes tests ≡ true) ↔ (firstFailing tests ≡ 0)
+none-failing tests h = (to tests, from (decided tests h))
+  where
+    to : (ts : List (ℕ × Bool)) → all passes ts ≡ true → firstFailing ts ≡ 0
+    to [] a = refl
+    to ((n, true) ∷ ts) a = to ts a
+    to ((n, false) ∷ ts) a = absurd (false≢true a)
+
+    from : Decided tests → firstFailing tests ≡ 0 → all passes tests ≡ true
+    from (inl x) z = absurd (omega (arith, x .not-done, z))
+    from (inr x) z = x .0
+
+-- a file is accepted exactly where it is that of a tree within the limits
+files-allowed : (f : List ℕ) → (programRefusal File f ≡ 0) ↔ ((p : Part) × Within (variables f) (clocks f) p × (f ≡ fileOf (variables f) (clocks f) p))
+files-allowed f = (
+  λ h.
+      let a = accepted-file f h in
+      (a .0, a .2, a .3),
+  λ x. ap (programRefusal File) (x .2) ∙ file-accepted (variables f) (clocks f) (x .0) (x .1) .0,
+)
+
 -- A call whose refusal by the definitions is n, the first of its tests that fails
 module _ (tests : List (ℕ × Bool)) (numbered : all isRefusal tests ≡ true) (n : ℕ) (n-is : n ≡ firstFailing tests) (answer : ℕ) where
   answers : {Unchanged Result : Type 0} → ((n ≡ 0 → ⊥) → (answer ≡ n) × Unchanged) → (n ≡ 0 → Result) → Answers tests answer Unchanged Result
@@ -88,7 +115,7 @@ settling-told true = refl
 settling-told false = refl
 
 pub demand-1 : Demand1
-unfolding compiledInto decompileRefusal decompiledInto beginRefusal begunInto offerRefusal offeredInto goalsInto settleRefusal settledInto
+unfolding programRefusal estimateAllowed compiledInto decompileRefusal decompiledInto beginRefusal begunInto offerRefusal offeredInto goalsInto settleRefusal settledInto
 demand-1 =
     record {
       orders =
@@ -98,6 +125,12 @@ demand-1 =
             beginning = λ t est room. refl;
             offer = λ t r time room. refl;
             settling = λ t r est. refl;
+          };
+      allowed =
+          record {
+            files = λ f. Iff·trans (none-failing (programTests File f) refl) (files-allowed f);
+            records = exactly-allowed;
+            estimates = λ v est. both (eqb (length est) v) _ (equal v (length est)) (all-facts (λ x. leb x maxValue) (λ x. x ≤ maxValue) (at-most maxValue) est (length est) refl);
           };
       compiles =
           λ f out answer out' c.

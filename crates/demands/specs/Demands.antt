@@ -10,14 +10,17 @@ use lib.ListN.{length, getD}
 use lib.Seq.{sets}
 use Rattle.base.specs.Lists.{all, bytesAt}
 use Rattle.meaning.specs.declared.Form.the-variants.{File}
-use Rattle.meaning.specs.Sizes.{byteValues, timeLimit}
-use Rattle.meaning.specs.Program.{variables, programRefusal}
+use Rattle.meaning.specs.Sizes.{maxValue, byteValues, timeLimit}
+use Rattle.meaning.specs.Tree.{Part}
+use Rattle.meaning.specs.Program.{variables, clocks, programTests, programRefusal, Within, fileOf}
 use Rattle.meaning.specs.Table.{compiled, compileTests, fileIn, decompileTests}
-use Rattle.meaning.specs.Cycle.{beginTests, freshRecord, Names, offerTests, offeredGoals, offeredRecord, settleTests, settledMarks, settledRecord, rootEnded}
+use Rattle.meaning.specs.Record.{recordAllowed}
+use Rattle.meaning.specs.Cycle.{estimateAllowed, beginTests, freshRecord, Names, offerTests, offeredGoals, offeredRecord, settleTests, settledMarks, settledRecord, rootEnded}
 use Rattle.meaning.specs.Answers.{answered, notATable}
 use Rattle.meaning.specs.Operations.{Compiled, Decompiled, Begun, Offered, Settled}
 use Rattle.agreement.specs.Runs.{Call, Timed, RunsAlike}
 use Rattle.agreement.specs.Calls.{tableIn, OperationsAlike, PromisesKept}
+use Rattle.sentences.specs.Allowed.{AllowedRecord}
 use Rattle.sentences.specs.Rows.{LaidDown}
 use Rattle.sentences.specs.RoundTrip.{Gives, Inverses}
 use Rattle.sentences.specs.Stepping.{BeginningSteps, OfferSteps, SettlingSteps}
@@ -64,8 +67,16 @@ pub record Orders : Type 0 where
   pub offer : (t r : List ℕ) (time room : ℕ) → numbers (offerTests t r time room) ≡ 9 ∷ 10 ∷ 14 ∷ 11 ∷ 12 ∷ 8 ∷ []
   pub settling : (t r est : List ℕ) → numbers (settleTests t r est) ≡ 9 ∷ 10 ∷ 14 ∷ 11 ∷ 13 ∷ 15 ∷ []
 
+-- "one that document 01 allows": which files, records and estimates pass their tests
+pub record Allowed : Type 0 where
+  -- a file passes 1 to 7 exactly where it is that of a tree within the limits
+  pub files : (f : List ℕ) → (all passes (programTests File f) ≡ true) ↔ ((p : Part) × Within (variables f) (clocks f) p × (f ≡ fileOf (variables f) (clocks f) p))
+  pub records : (t r : List ℕ) → (recordAllowed t r ≡ true) ↔ AllowedRecord t r
+  pub estimates : (v : ℕ) (est : List ℕ) → (estimateAllowed v est ≡ true) ↔ ((length est ≡ v) × ((i : ℕ) → i < length est → getD est i 0 ≤ maxValue))
+
 pub record Demand1 : Type 0 where
   pub orders : Orders
+  pub allowed : Allowed
   pub compiles : (f out : List ℕ) (answer : ℕ) (out' : List ℕ) → Compiled f out answer out'
       → Answers (compileTests f (length out)) answer (out' ≡ out) ((answer ≡ 0) × (out' ≡ sets out 0 (compiled File f)))
   pub decompiles : (t out : List ℕ) (answer : ℕ) (out' : List ℕ) → Decompiled t out answer out'
