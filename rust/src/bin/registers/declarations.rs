@@ -205,7 +205,7 @@ fn declared_name(line: &str, indent: usize) -> Option<&str> {
     (name != "module" && name != "mutual").then_some(name)
 }
 
-/// The parts of a name with its place before it: `Runs.Demand3`, `run_offer::offer`.
+/// The parts of a name with its place before it: `Demands.Demand3`, `run_offer::offer`.
 fn parts(word: &str) -> Vec<&str> {
     word.split("::").flat_map(|part| part.split('.')).collect()
 }

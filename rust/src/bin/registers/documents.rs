@@ -66,7 +66,7 @@ fn paths_are_there() {
     assert!(seen > 100, "only {seen} paths are named");
 }
 
-/// Whether a word has the form of a name of the crates: `read_line`, `base::at`, `whole-reached`, `Runs.Demand3`,
+/// Whether a word has the form of a name of the crates: `read_line`, `base::at`, `whole-reached`, `Demands.Demand3`,
 /// `treeOf`.
 fn is_name(word: &str) -> bool {
     let parts: Vec<&str> = word.split(['_', '-', ':', '.']).collect();
