@@ -18,3 +18,4 @@ pub mod ZeroOrOne
 pub mod Stepping
 pub mod InsteadInRuns
 pub mod OneTable
+pub mod LinkChecks

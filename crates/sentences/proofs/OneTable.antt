@@ -156,12 +156,22 @@ next-same t u a table p l = go (inside u table p l .next-is)
 row-says : (s : List ℕ) (p : ℕ) → bytesAt s (headerLength + rowLength * p) rowLength ≡ entryAt Table s p .kind ∷ endAt s p ∷ parentAt s p ∷ nextAt s p ∷ operandBytes (operandOf s p)
 row-says s p = simp towards-suc
 
--- so all bytes are the same
-module _ (t u : List ℕ) (a : TwoTables u t) (table : isTable u ≡ true) where
+-- Tables of the same sizes whose rows say the same are the same
+pub record SameRows (t u : List ℕ) : Type 0 where
+  pub lengths : length t ≡ length u
+  pub long : length u ≡ lengthOf Table (parts u)
+  pub sizes : bytesAt t 0 headerLength ≡ bytesAt u 0 headerLength
+  pub entries : (p : ℕ) → p < parts u → entryAt Table t p ≡ entryAt Table u p
+  pub ends : (p : ℕ) → p < parts u → endAt t p ≡ endAt u p
+  pub parents : (p : ℕ) → p < parts u → parentAt t p ≡ parentAt u p
+  pub nexts : (p : ℕ) → p < parts u → nextAt t p ≡ nextAt u p
+
+module _ (t u : List ℕ) (a : SameRows t u) where
   row-same : (p : ℕ) → p < parts u → bytesAt t (headerLength + rowLength * p) rowLength ≡ bytesAt u (headerLength + rowLength * p) rowLength
   row-same p l =
-      let k : entryAt Table t p ≡ entryAt Table u p = sym (a .same-entries p l) in
-      row-says t p ∙ rw (sym (end-same u t a p l), sym (parent-same u t a p l), next-same t u a table p l) (ap (λ (e : Entry). e .kind ∷ endAt u p ∷ parentAt u p ∷ nextAt u p ∷ operandBytes (e .operand)) k) ∙ sym (row-says u p)
+      row-says t p
+      ∙ rw (a .ends p l, a .parents p l, a .nexts p l) (ap (λ (e : Entry). e .kind ∷ endAt u p ∷ parentAt u p ∷ nextAt u p ∷ operandBytes (e .operand)) (a .entries p l))
+      ∙ sym (row-says u p)
 
   rows-same : (n p : ℕ) → p + n ≤ parts u → bytesAt t (headerLength + rowLength * p) (rowLength * n) ≡ bytesAt u (headerLength + rowLength * p) (rowLength * n)
   rows-same zero p h = refl
@@ -173,13 +183,13 @@ module _ (t u : List ℕ) (a : TwoTables u t) (table : isTable u ≡ true) where
           let m : headerLength + rowLength * suc p ≡ headerLength + rowLength * p + rowLength = omega arith in
           ap (bytesAt s (headerLength + rowLength * p)) e ∙ bytes-append s (headerLength + rowLength * p) rowLength (rowLength * n) ∙ ap (λ (i : ℕ). bytesAt s (headerLength + rowLength * p) rowLength ++ bytesAt s i (rowLength * n)) (sym m)
 
-  whole : (s : List ℕ) (n : ℕ) → length s ≡ lengthOf Table n → s ≡ bytesAt s 0 headerLength ++ bytesAt s headerLength (rowLength * n)
-  whole s n e = sym (bytes-all s) ∙ ap (bytesAt s 0) e ∙ bytes-append s 0 headerLength (rowLength * n)
+  whole : (s : List ℕ) → length s ≡ length u → s ≡ bytesAt s 0 headerLength ++ bytesAt s headerLength (rowLength * parts u)
+  whole s e = sym (bytes-all s) ∙ ap (bytesAt s 0) (e ∙ a .long) ∙ bytes-append s 0 headerLength (rowLength * parts u)
 
-  tables-same : bytesAt t 0 headerLength ≡ bytesAt u 0 headerLength → t ≡ u
-  tables-same h =
+  pub tables-same : t ≡ u
+  tables-same =
       let rows : bytesAt t headerLength (rowLength * parts u) ≡ bytesAt u headerLength (rowLength * parts u) = rows-same (parts u) 0 (omega arith) in
-      whole t (parts u) (a .that .length-is ∙ ap (lengthOf Table) (sym (a .same-parts))) ∙ ap₂ (λ (x y : List ℕ). x ++ y) h rows ∙ sym (whole u (parts u) (a .this .length-is))
+      whole t (a .lengths) ∙ ap₂ (λ (x y : List ℕ). x ++ y) (a .sizes) rows ∙ sym (whole u refl)
 
 -- reading gives the table that document 01 lays down, and no other
 pub reading-lays-down : ReadingLaysDown
@@ -192,9 +202,18 @@ reading-lays-down f t h = (
       let d : LaidDown u = table-laid-down u table in
       let e : fileIn u ≡ fileIn t = file-back f h ∙ sym (x .0) in
       let n : parts u ≡ parts t = ap parts e in
-      let sizes : bytesAt t 0 headerLength ≡ bytesAt u 0 headerLength = x .1 .sizes-are ∙ ap (λ (s : List ℕ). bytesAt s 0 headerLength) (sym e) ∙ sym (d .sizes-are) in
       let a : TwoTables u t = record { this = d; that = x .1; same-parts = n; same-entries = λ p l. d .entries-are p l ∙ ap (λ (s : List ℕ). entryAt File s p) e ∙ sym (x .1 .entries-are p (rw (← n) l)) } in
-      sym (tables-same t u a table sizes),
+      sym
+      (tables-same t u
+      (record {
+        lengths = x .1 .length-is ∙ ap (lengthOf Table) (sym n) ∙ sym (d .length-is);
+        long = d .length-is;
+        sizes = x .1 .sizes-are ∙ ap (λ (s : List ℕ). bytesAt s 0 headerLength) (sym e) ∙ sym (d .sizes-are);
+        entries = λ p l. sym (a .same-entries p l);
+        ends = λ p l. sym (end-same u t a p l);
+        parents = λ p l. sym (parent-same u t a p l);
+        nexts = next-same t u a table;
+      })),
 )
 
 -- exactly the tables hold an accepted file and are laid down

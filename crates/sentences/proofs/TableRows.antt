@@ -13,6 +13,7 @@ use Rattle.base.specs.Lists.{sum, nonempty, tabulate, flag, bytesAt}
 use Rattle.base.proofs.Lists.{getD-tabulate}
 use Rattle.base.proofs.Stores.{length-bytes}
 use Rattle.meaning.specs.declared.Entry.{Entry}
+use Rattle.meaning.specs.declared.Form.{Form}
 use Rattle.meaning.specs.declared.Form.the-variants.{File, Table}
 use Rattle.meaning.specs.Sizes.{maxParts, noPart, headerLength}
 use Rattle.meaning.specs.Kinds.{Kind, UNKNOWN, GOAL, START, WAIT, SEQ, PAR, MAINTAIN, CHOICE, REPEAT, arity}
@@ -56,6 +57,15 @@ counted-both f i (suc m) n =
 pub counted-none : (f : ℕ → Bool) (i n : ℕ) → ((q : ℕ) → i ≤ q → q < i + n → f q ≡ false) → counted f i n ≡ 0
 counted-none f i zero h = refl
 counted-none f i (suc n) h = rw (h i (omega arith) (omega arith), counted-none f (suc i) n (λ q a b. h q (omega arith) (omega arith)))
+
+-- where all entries are the same, each is
+pub same-entry : (form form' : Form) (s s' : List ℕ) → entries form s ≡ entries form' s' → (p : ℕ) → p < parts s → p < parts s' → entryAt form s p ≡ entryAt form' s' p
+unfolding entries
+same-entry form form' s s' e p l l' =
+    let d : Entry = entryAt form s 0 in
+    let one : getD (entries form s) p d ≡ entryAt form s (0 + p) = getD-tabulate (entryAt form s) 0 (parts s) p d l in
+    let other : getD (entries form' s') p d ≡ entryAt form' s' (0 + p) = getD-tabulate (entryAt form' s') 0 (parts s') p d l' in
+    rw zero-add at (sym one ∙ ap (λ (es : List Entry). getD es p d) e ∙ other)
 
 module _ (t : List ℕ) (table : isTable t ≡ true) where
   -- no part has the number that stands for none
@@ -281,15 +291,12 @@ module _ (t : List ℕ) (table : isTable t ≡ true) where
           go (inr h) i = omega (arith, i .1)
 
   -- row p has the kind and the operand of part p of the file
-  same-entries : (p : ℕ) → p < parts t → entryAt Table t p ≡ entryAt File (fileIn t) p
-  unfolding entries fileIn
-  same-entries p there =
-      let d : Entry = entryAt Table t 0 in
+  row-entry : (p : ℕ) → p < parts t → entryAt Table t p ≡ entryAt File (fileIn t) p
+  unfolding fileIn
+  row-entry p there =
       let n : parts (fileIn t) ≡ length (entries Table t) = sym (length-entries Table t) in
-      let e : entries File (fileIn t) ≡ entries Table t = file-entries (bytesAt t 0 headerLength) (entries Table t) d (length-bytes t 0 headerLength) n in
-      let file : getD (entries File (fileIn t)) p d ≡ entryAt File (fileIn t) (0 + p) = getD-tabulate (entryAt File (fileIn t)) 0 (parts t) p d there in
-      let own : getD (entries Table t) p d ≡ entryAt Table t (0 + p) = getD-tabulate (entryAt Table t) 0 (parts t) p d there in
-      rw zero-add at (sym own ∙ ap (λ (es : List Entry). getD es p d) (sym e) ∙ file)
+      let e : entries File (fileIn t) ≡ entries Table t = file-entries (bytesAt t 0 headerLength) (entries Table t) (entryAt Table t 0) (length-bytes t 0 headerLength) n in
+      same-entry Table File t (fileIn t) (sym e) p there there
 
   -- every table is the one that document 01 lays down
   pub table-laid-down : LaidDown t
@@ -298,7 +305,7 @@ module _ (t : List ℕ) (table : isTable t ≡ true) where
       record {
         length-is = table-held t table .1 .length-is;
         sizes-are = refl;
-        entries-are = same-entries;
+        entries-are = row-entry;
         end-after = λ p l. inside t table p l .end-after;
         end-within = λ p l. inside t table p l .end-within;
         end-is = λ p q l. (λ d. descendant-inside p d, λ i. inside-descendant q p q (omega arith) i);

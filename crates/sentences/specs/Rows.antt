@@ -39,7 +39,7 @@ pub record Following (t : List ℕ) (p s : ℕ) : Type 0 where
 unfoldable pub numberOfChildren : List ℕ → ℕ → ℕ
 numberOfChildren t p = sum (tabulate (λ q. flag (eqb (parentAt t q) p)) 0 (parts t))
 
--- "The three sizes, then one 8-byte row per part, same order: kind; end; parent; next; the operand"
+-- "The three sizes, then one 8-byte row per part, same order": what the rows say
 pub record LaidDown (t : List ℕ) : Type 0 where
   -- "Length 3 + 8 × N"
   pub length-is : length t ≡ lengthOf Table (parts t)
@@ -50,12 +50,12 @@ pub record LaidDown (t : List ℕ) : Type 0 where
   pub end-after : (p : ℕ) → p < parts t → p < endAt t p
   pub end-within : (p : ℕ) → p < parts t → endAt t p ≤ parts t
   pub end-is : (p q : ℕ) → p < parts t → Descendant t p q ↔ ((p < q) × (q < endAt t p))
-  -- "parent": the part around it, with no other between; "255 stands for no parent"
+  -- "parent": the part around it, with no other between; "255 stands for no parent or no next"
   pub root-parent : parentAt t 0 ≡ noPart
   pub parent-before : (p : ℕ) → 0 < p → p < parts t → parentAt t p < p
   pub parent-around : (p : ℕ) → 0 < p → p < parts t → Descendant t (parentAt t p) p
   pub parent-nearest : (p r : ℕ) → parentAt t p < r → Descendant t r p → ⊥
-  -- "Next is the following sibling for a child of SEQ, and the child itself for a child of REPEAT"; 255 stands for no next
+  -- "Next is the following sibling for a child of SEQ, and the child itself for a child of REPEAT"
   pub next-sibling : (p s : ℕ) → p < parts t → s < parts t → s ≢ p → (nextAt t p ≡ s) ↔ (ChildOfKind t SEQ p × Following t p s)
   pub next-itself : (p : ℕ) → p < parts t → (nextAt t p ≡ p) ↔ ChildOfKind t REPEAT p
   pub next-none : (p : ℕ) → p < parts t → (nextAt t p ≡ noPart) ↔ ((ChildOfKind t REPEAT p → ⊥) × ((s : ℕ) → ChildOfKind t SEQ p → Following t p s → ⊥))
