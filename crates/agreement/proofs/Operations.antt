@@ -8,9 +8,8 @@ use mathlib.Core.Option.{Option, some, Option·some-injective}
 use mathlib.Core.List.{List, [], _∷_, map}
 use lib.Dec.{eqb, leb}
 use lib.ListN.{length, getD}
-use borrow.Author.Tests.{leb-true, leb-false, le-leb, eqb-true, eqb-false, not-true}
-use Rattle.base.specs.Lists.{all, flag, firstFailing, bytesAt}
-use Rattle.base.proofs.Lists.{none-fails}
+use borrow.Author.Tests.{leb-false, le-leb, eqb-true, eqb-false, not-true}
+use Rattle.base.specs.Lists.{all, flag, bytesAt}
 use Rattle.base.proofs.Stores.{bytes-sets}
 use Rattle.meaning.specs.declared.Form.the-variants.{File, Table}
 use Rattle.meaning.specs.Sizes.{lengthOf}
@@ -19,11 +18,11 @@ use Rattle.meaning.specs.Program.{parts, variables, clocks, programRefusal}
 use Rattle.meaning.specs.Table.{tableOf, compiled, compileRefusal, compiledInto}
 use Rattle.meaning.specs.Record.{phaseOf, lastTime, estimateIn, startedIn, startsIn, waiting, finished}
 use Rattle.meaning.specs.Cycle.{contested, Names, rootEnded, settledMarks, beginRefusal, begunInto, offerTests, offerRefusal, offeredGoals, offeredInto, goalsInto, settleTests, settleRefusal, settledInto}
-use Rattle.meaning.specs.Answers.{answered, bufferTooShort, noVariable}
+use Rattle.meaning.specs.Answers.{answered, noVariable}
 use Rattle.meaning.specs.Operations.{Compiled, Begun}
 use Rattle.meaning.proofs.Files.{accepted}
 use Rattle.meaning.proofs.Tables.{table-holds, table-accepted, compiled-is}
-use Rattle.meaning.proofs.Refusals.{settled-phase, goal-bytes-into}
+use Rattle.meaning.proofs.Refusals.{compile-accepts, settled-phase, goal-bytes-into}
 use Rattle.agreement.specs.Runs.{Call, offer, settling, Reply, refused, goals, running, done, reply, settledReply, tableReply, tableNext, tableReplies, tableAfter, tableFinishing, State, begin, fed, treeNext, settlingCount, possible, NameAlike, NamesAlike, Alike, Timed}
 use Rattle.agreement.specs.Calls.{tableIn, Made, offerMade, settlingMade, callOf, recordFrom, Promised, AllPromised, replyOf, NameInAnswer, NamesInAnswers, recordAfter, finishingCycle, CallsAlike, OperationsAlike, PromisesKept}
 use Rattle.agreement.proofs.Agreement.{failing-passes, runs-alike}
@@ -136,22 +135,7 @@ module _ (t : List ℕ) (v : ℕ) (same : variables t ≡ v) where
         finishing = finishing-is ms r 0 h ∙ alike .finishing;
       }
 
--- two refusals one after the other are none only where both are
-both-none : (m n : ℕ) → cond (eqb n 0) m n ≡ 0 → (n ≡ 0) × (m ≡ 0)
-both-none m n = go (eqb n 0) refl
-  where
-    go : (b : Bool) → eqb n 0 ≡ b → cond b m n ≡ 0 → (n ≡ 0) × (m ≡ 0)
-    go true e h = (eqb-true n 0 e, h)
-    go false e h = absurd (eqb-false n 0 e h)
-
 module _ (f : List ℕ) where
-  -- a file that compiling does not refuse is a program's, and there is room for its table
-  pub read-accepted : (room : ℕ) → compileRefusal f room ≡ 0 → (programRefusal File f ≡ 0) × (lengthOf Table (parts f) ≤ room)
-  unfolding compileRefusal
-  read-accepted room h =
-      let x = both-none (firstFailing ((bufferTooShort, leb (lengthOf Table (parts f)) room) ∷ [])) (programRefusal File f) h in
-      (x .0, leb-true (lengthOf Table (parts f)) room (none-fails ((bufferTooShort, leb (lengthOf Table (parts f)) room) ∷ []) refl (x .1) .0))
-
   module _ (a : programRefusal File f ≡ 0) where
     abbrev tree : Part
     tree = accepted File f a .0
@@ -171,7 +155,7 @@ module _ (f : List ℕ) where
   pub read-table : (out : List ℕ) → compileRefusal f (length out) ≡ 0 → tableIn f (compiledInto f out) ≡ compiled File f
   unfolding compiledInto
   read-table out h =
-      let x = read-accepted (length out) h in
+      let x = compile-accepts f (length out) .0 h in
       rw h (bytes-sets (compiled File f) out 0 (lengthOf Table (parts f)) (compiled-length (x .0)) (omega (arith, x .1)))
 
   -- A beginning on the file's table, and the calls after it
@@ -206,7 +190,7 @@ pub operations-agree : (f out : List ℕ) (answer : ℕ) (out' : List ℕ) → C
 operations-agree f out answer out' tree-is z est r answer' r' b =
     let h : compileRefusal f (length out) ≡ 0 = sym (tree-is .answer-is) ∙ z in
     let e : tableIn f out' ≡ compiled File f = ap (tableIn f) (tree-is .buffer-is) ∙ read-table f out h in
-    subst (λ (t : List ℕ). Begun t est r answer' r' → OperationsAlike f t est r answer' r') (sym e) (begun-alike f (read-accepted f (length out) h .0) est r answer' r') b
+    subst (λ (t : List ℕ). Begun t est r answer' r' → OperationsAlike f t est r answer' r') (sym e) (begun-alike f (compile-accepts f (length out) .0 h .0) est r answer' r') b
 
 -- A name that an offer may give is there for all goal bytes: the lowest contested variable, or 255
 some-name : (gs : List ℕ) → (n : ℕ) × Names gs n

@@ -21,13 +21,13 @@ use Rattle.meaning.specs.Record.{waiting, finished}
 use Rattle.meaning.specs.Cycle.{estimateAllowed, beginTests, beginRefusal, freshRecord, begunInto, offerTests, offerRefusal, offeredInto, goalsInto, settleTests, settleRefusal, settledMarks, settledInto, rootEnded}
 use Rattle.meaning.specs.Answers.{answered, notATable}
 use Rattle.meaning.proofs.Files.{accepted-file, file-accepted}
-use Rattle.meaning.proofs.Refusals.{compile-first, goal-bytes-into, offer-refused, goals-refused, settle-refused}
+use Rattle.meaning.proofs.Refusals.{compile-first, compile-accepts, goal-bytes-into, offer-refused, goals-refused, settle-refused}
 use Rattle.agreement.specs.Calls.{tableIn}
 use Rattle.agreement.proofs.Agreement.{failing-passes, runs-alike}
 use Rattle.agreement.proofs.Operations.{offer-below, settle-below, phase-settled, not-refused, read-table, operations-agree, promises-kept}
 use Rattle.sentences.proofs.AllowedRecords.{exactly-allowed}
 use Rattle.sentences.proofs.OneTable.{reading-lays-down}
-use Rattle.sentences.proofs.RoundTrip.{compile-accepts, inverses}
+use Rattle.sentences.proofs.RoundTrip.{inverses}
 use Rattle.sentences.proofs.Stepping.{beginning-steps, offer-steps, settling-steps}
 use Rattle.demands.specs.Demands.{passes, RefusedBy, Answers, NoFile, SettlingStepped, Demand1, Demand2, Demand3}
 

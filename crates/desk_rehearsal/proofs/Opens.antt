@@ -19,7 +19,8 @@ use Rattle.meaning.specs.Sizes.{lengthOf}
 use Rattle.meaning.specs.Program.{parts}
 use Rattle.meaning.specs.Table.{compiled, compileRefusal, compiledInto}
 use Rattle.meaning.proofs.Answers.{not-refused, is-refused}
-use Rattle.agreement.proofs.Operations.{read-accepted, compiled-length}
+use Rattle.meaning.proofs.Refusals.{compile-accepts}
+use Rattle.agreement.proofs.Operations.{compiled-length}
 use Rattle.desk_format.specs.Writing.{Written}
 use Rattle.desk_answers.specs.Answers.{refusedText}
 use Rattle.desk_transcript.specs.Transcript.{maxAnswer}
@@ -60,11 +61,11 @@ module _ (f table table' out out' : List ℕ) (o : Opened) (h : Opening f table 
     written-table = h .table-is ∙ rw accepted-zero
 
     pub opened-fits : o .length ≤ length table'
-    opened-fits = rw (written-table, length-sets table 0 (compiled File f)) (omega (arith, table-length, read-accepted f (length table) accepted-zero .1))
+    opened-fits = rw (written-table, length-sets table 0 (compiled File f)) (omega (arith, table-length, compile-accepts f (length table) .0 accepted-zero .1))
 
     pub opened-table : take (o .length) table' ≡ compiled File f
     opened-table =
-        let r = read-accepted f (length table) accepted-zero in
+        let r = compile-accepts f (length table) .0 accepted-zero in
         let n = compiled-length f (r .0) in
         rw (written-table, sets-start table (compiled File f) (omega (arith, r .1)))
         (take-at (compiled File f) (drop (length (compiled File f)) table) (o .length) (n ∙ sym table-length))

@@ -2,19 +2,19 @@
 use Prim.Native.Nat.{ℕ, _≤_}
 use native.Mathlib.Omega.{arith}
 use mathlib.Core.Path.{_≡_, refl, sym, ap, _∙_}
-use mathlib.Core.Bool.{cond}
-use mathlib.Core.Logic.{inl}
-use mathlib.Core.List.{List}
+use mathlib.Core.Bool.{Bool, cond}
+use mathlib.Core.Logic.{_↔_, inl}
+use mathlib.Core.List.{List, [], _∷_, _++_}
 use lib.Dec.{eqb}
 use lib.ListN.{length, set, drop}
 use lib.Seq.{sets, getD-set-same}
-use borrow.Author.Tests.{leb-true, ne-eqb}
+use borrow.Author.Tests.{leb-true, le-leb, ne-eqb}
 use Rattle.base.specs.Lists.{flat, firstFailing, bytesAt}
-use Rattle.base.proofs.Lists.{Passed, none-fails, fails-append}
+use Rattle.base.proofs.Lists.{Passed, none-fails, passed, fails-append}
 use Rattle.base.proofs.Stores.{getD-sets-out, bytes-sets, drop-sets-out}
-use Rattle.meaning.specs.Sizes.{timeWidth, littleEndian}
+use Rattle.meaning.specs.Sizes.{lengthOf, timeWidth, littleEndian}
 use Rattle.meaning.specs.declared.Form.the-variants.{File, Table}
-use Rattle.meaning.specs.Program.{variables, clocks, programTests, programRefusal}
+use Rattle.meaning.specs.Program.{parts, variables, clocks, programTests, programRefusal}
 use Rattle.meaning.specs.Table.{roomTest, compileTests, compileRefusal}
 use Rattle.meaning.specs.Record.{estimatePlace, startedPlace, startsPlace, marksPlace, phaseOf, lastTime, startedIn, startsIn, waiting, finished}
 use Rattle.meaning.specs.Cycle.{beginRefusal, begunInto, checkedMarks, leavesFrom, offerTests, offerRefusal, offeredGoals, offeredInto, goalsInto, settledMarks, settledRecord, settleTests, settleRefusal, settledInto, rootEnded, startingLeaves, clockFlags, clockStarts}
@@ -29,6 +29,23 @@ effect n m new out out₁ e h = (e, h ∙ ap (λ (k : ℕ). cond (eqb k 0) new o
 pub compile-first : (f : List ℕ) (room : ℕ) → compileRefusal f room ≡ firstFailing (compileTests f room)
 unfolding compileRefusal programRefusal
 compile-first f room = sym (fails-append (programTests File f) (roomTest Table f room) refl)
+
+-- tests in two lists that all pass, and so do those of each
+passed-both : (xs ys : List (ℕ × Bool)) → Passed (xs ++ ys) → Passed xs × Passed ys
+passed-both [] ys h = (tt, h)
+passed-both (x ∷ xs) ys h =
+    let r = passed-both xs ys (h .1) in
+    ((h .0, r .0), r .1)
+
+-- compiling is not refused exactly where the file is accepted and there is room for the table
+pub compile-accepts : (f : List ℕ) (room : ℕ) → (compileRefusal f room ≡ 0) ↔ ((programRefusal File f ≡ 0) × (lengthOf Table (parts f) ≤ room))
+unfolding compileRefusal programRefusal
+compile-accepts f room = (
+  λ h.
+      let tests = passed-both (programTests File f) (roomTest Table f room) (none-fails (compileTests f room) refl (sym (compile-first f room) ∙ h)) in
+      (passed (programTests File f) (tests .0), leb-true (lengthOf Table (parts f)) room (tests .1 .0)),
+  λ x. rw (x .0, le-leb (lengthOf Table (parts f)) room (x .1)),
+)
 
 module _ (t r : List ℕ) (time room : ℕ) (h : offerRefusal t r time room ≡ 0) where
   pub offer-tests : Passed (offerTests t r time room)

@@ -10,36 +10,19 @@ use lib.ListN.{length, drop}
 use lib.Seq.{sets}
 use borrow.Author.Tests.{leb-true, le-leb}
 use Rattle.base.specs.Lists.{firstFailing, bytesAt}
-use Rattle.base.proofs.Lists.{Passed, none-fails, passed}
+use Rattle.base.proofs.Lists.{none-fails}
 use Rattle.base.proofs.Stores.{bytes-front, sets-start}
 use Rattle.meaning.specs.declared.Form.the-variants.{File, Table}
 use Rattle.meaning.specs.Sizes.{lengthOf}
-use Rattle.meaning.specs.Program.{parts, programTests, programRefusal}
-use Rattle.meaning.specs.Table.{compiled, fileIn, isTable, roomTest, compileTests, compileRefusal, compiledInto, decompileTests, decompileRefusal, decompiledInto}
+use Rattle.meaning.specs.Program.{parts}
+use Rattle.meaning.specs.Table.{compiled, fileIn, isTable, compileRefusal, compiledInto, decompileTests, decompileRefusal, decompiledInto}
 use Rattle.meaning.specs.Answers.{bufferTooShort, notATable}
 use Rattle.meaning.proofs.Files.{accepted}
 use Rattle.meaning.proofs.Tables.{file-back, table-of-file, table-held}
-use Rattle.meaning.proofs.Refusals.{compile-first}
+use Rattle.meaning.proofs.Refusals.{compile-accepts}
 use Rattle.sentences.specs.RoundTrip.{frontOf, restOf, Gives, FilesComeBack, TablesComeBack, Inverses}
 
--- tests in two lists that all pass, and so do those of each
-passed-both : (xs ys : List (ℕ × Bool)) → Passed (xs ++ ys) → Passed xs × Passed ys
-passed-both [] ys h = (tt, h)
-passed-both (x ∷ xs) ys h =
-    let r = passed-both xs ys (h .1) in
-    ((h .0, r .0), r .1)
-
--- compiling is not refused exactly where the file is accepted and there is room for the table
-pub compile-accepts : (f : List ℕ) (room : ℕ) → (compileRefusal f room ≡ 0) ↔ ((programRefusal File f ≡ 0) × (lengthOf Table (parts f) ≤ room))
-unfolding compileRefusal programRefusal
-compile-accepts f room = (
-  λ h.
-      let tests = passed-both (programTests File f) (roomTest Table f room) (none-fails (compileTests f room) refl (sym (compile-first f room) ∙ h)) in
-      (passed (programTests File f) (tests .0), leb-true (lengthOf Table (parts f)) room (tests .1 .0)),
-  λ x. rw (x .0, le-leb (lengthOf Table (parts f)) room (x .1)),
-)
-
--- and decompiling exactly where the bytes are a table and there is room for the file
+-- decompiling is not refused exactly where the bytes are a table and there is room for the file
 pub decompile-accepts : (t : List ℕ) (room : ℕ) → (decompileRefusal t room ≡ 0) ↔ ((isTable t ≡ true) × (lengthOf File (parts t) ≤ room))
 unfolding decompileRefusal
 decompile-accepts t room = (

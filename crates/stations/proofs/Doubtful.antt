@@ -15,7 +15,7 @@ use Rattle.meaning.specs.Tree.{Part, fold, size, depth, goal, start, wait, seq,
 use Rattle.meaning.specs.Program.{sizesAllowed, entries, preorder, entryKnown, entryAllowed, arityOf, makePart, takeChildren, trees, treeOf, programRefusal}
 use Rattle.meaning.specs.Table.{operandOf, nextAt, nextOf, block, tableOf, compiled, fileIn, isTable}
 use Rattle.meaning.specs.Conditions.{Situation, outcome, reached, satisfied, violated}
-use Rattle.meaning.specs.Record.{recordLength, phaseOf, lastTime, estimateIn, startedIn, startsIn, marksIn, restZero, valuesAllowed, clockAllowed, clocksAllowed, markedChildren, childrenAllowed, partsAllowed, rootAllowed, recordBytes, recordAllowed}
+use Rattle.meaning.specs.Record.{recordLength, lastTime, estimateIn, restZero, valuesAllowed, clockAllowed, clocksAllowed, markedChildren, childrenAllowed, partsAllowed, rootAllowed, recordBytes, recordAllowed}
 use Rattle.meaning.specs.Cycle.{beginsIn, initialMarksFrom, initialMarks, breaks, checkedFrom, leavesFrom, valuesFor, goalBytes, transition, applied, settledFrom, situation, estimateAllowed, freshRecord, beginRefusal, begunInto, offerRefusal, offeredInto, goalsInto, worksFrom, settleRefusal, settledInto}
 use Rattle.agreement.specs.Unfolding.{Rest, broken, holding, afresh, check, working, settle}
 use Rattle.stations.specs.Moments.{Says, cycle, operand}
