@@ -1,9 +1,14 @@
--- The examples of document 01, computed by the definitions: those of "Refusal by refusal", and station 10's table.
+-- The examples of document 01, computed by the definitions: those of "Refusal by refusal", the answers' numbers, and station 10's table.
 use Prim.Native.Nat.{ℕ}
 use mathlib.Core.Path.{_≡_, refl}
 use mathlib.Core.List.{List, [], _∷_, _++_}
 use lib.ListN.{take, set, replicate}
 use Rattle.meaning.specs.declared.Form.the-variants.{File}
+use Rattle.meaning.specs.declared.Refusal.the-variants.{FileTooShort, SizeOutOfRange, WrongLength, UnknownKind, OperandNotAllowed, NotOneTree, TooDeep, BufferTooShort, NotATable, RecordNotAllowed, WrongPhase, TimeBeforeLast, EstimateNotAllowed, RunFinished, NothingAtWork}
+use Rattle.meaning.specs.declared.Answer.the-variants.{Done}
+use Rattle.meaning.specs.declared.OfferAnswer.the-variants.{Agreed, Contested}
+use Rattle.meaning.specs.declared.SettleAnswer.the-variants.{Running, Finished}
+use Rattle.meaning.specs.Answers.{refusalNumber, answerNumber, offerNumber, settleNumber}
 use Rattle.meaning.specs.Table.{compiled}
 use Rattle.meaning.specs.Cycle.{begunInto, offeredInto, settledInto}
 use Rattle.meaning.proofs.Computed.{_gets_, Holds, file, compile, decompile, begin, offer, settle}
@@ -45,6 +50,34 @@ pub examples : Holds
 unfolding settle
 examples = refl
 
+-- The number of each refusal, and of the answers that are none: of an offer 256 and the variable that it names, 255 for none; of a settling 256
+-- for "running" and 257 for "finished"
+pub answer-numbers : Holds
+    (refusalNumber FileTooShort gets 1
+    ∷ refusalNumber SizeOutOfRange gets 2
+    ∷ refusalNumber WrongLength gets 3
+    ∷ refusalNumber UnknownKind gets 4
+    ∷ refusalNumber OperandNotAllowed gets 5
+    ∷ refusalNumber NotOneTree gets 6
+    ∷ refusalNumber TooDeep gets 7
+    ∷ refusalNumber BufferTooShort gets 8
+    ∷ refusalNumber NotATable gets 9
+    ∷ refusalNumber RecordNotAllowed gets 10
+    ∷ refusalNumber WrongPhase gets 11
+    ∷ refusalNumber TimeBeforeLast gets 12
+    ∷ refusalNumber EstimateNotAllowed gets 13
+    ∷ refusalNumber RunFinished gets 14
+    ∷ refusalNumber NothingAtWork gets 15
+    ∷ answerNumber Done gets 0
+    ∷ offerNumber (Contested 0) gets 256
+    ∷ offerNumber (Contested 31) gets 287
+    ∷ offerNumber Agreed gets 511
+    ∷ settleNumber Running gets 256
+    ∷ settleNumber Finished gets 257
+    ∷ [])
+answer-numbers = refl
+
+-- "The file .. and its table"
 abbrev file10 : List ℕ
 file10 = 0x03 ∷ 0x01 ∷ 0x01 ∷ 0x04 ∷ 0x02 ∷ 0x03 ∷ 0x02 ∷ 0x00 ∷ 0x00 ∷ 0x00 ∷ 0x00 ∷ 0x00 ∷ 0x00 ∷ 0x00 ∷ 0x03 ∷ 0x00 ∷ 0x0A ∷ 0x00 ∷ []
 

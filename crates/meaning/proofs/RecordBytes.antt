@@ -5,6 +5,7 @@ use mathlib.Core.Path.{refl}
 use mathlib.Core.Bool.{Bool, true, false}
 use mathlib.Core.List.{List, [], _∷_, _++_}
 use lib.ListN.{take, replicate}
+use lib.Seq.{sets}
 use Rattle.meaning.specs.declared.Form.the-variants.{File}
 use Rattle.meaning.specs.Record.{recordBytes}
 use Rattle.meaning.specs.Table.{compiled, compiledInto, decompiledInto}
@@ -29,15 +30,15 @@ table =
     ∷ 1 ∷ 3 ∷ 0 ∷ 255 ∷ 0 ∷ 0 ∷ 250 ∷ 0
     ∷ []
 
--- PAR(SEQ(GOAL, GOAL), MAINTAIN(GOAL), CHOICE(GOAL, GOAL), REPEAT(GOAL)), for one variable and no clock: each GOAL is 0=0, and each condition
--- that variable 0 equals 0
+-- PAR(SEQ(GOAL, GOAL), MAINTAIN(GOAL), CHOICE(GOAL, GOAL), REPEAT(SEQ(GOAL))), for one variable and no clock: each GOAL is 0=0, and each
+-- condition that variable 0 equals 0
 abbrev every : List ℕ
-every = file ((5, 4) ∷ (4, 2) ∷ (1, 0) ∷ (1, 0) ∷ (6, 1) ∷ (1, 0) ∷ (7, 1) ∷ (1, 0) ∷ (1, 0) ∷ (8, 0) ∷ (1, 0) ∷ [])
+every = file ((5, 4) ∷ (4, 2) ∷ (1, 0) ∷ (1, 0) ∷ (6, 1) ∷ (1, 0) ∷ (7, 1) ∷ (1, 0) ∷ (1, 0) ∷ (8, 0) ∷ (4, 1) ∷ (1, 0) ∷ [])
 
 abbrev everyTable : List ℕ
 everyTable =
-    11 ∷ 1 ∷ 0
-    ∷ 5 ∷ 11 ∷ 255 ∷ 255 ∷ 4 ∷ 0 ∷ 0 ∷ 0
+    12 ∷ 1 ∷ 0
+    ∷ 5 ∷ 12 ∷ 255 ∷ 255 ∷ 4 ∷ 0 ∷ 0 ∷ 0
     ∷ 4 ∷ 4 ∷ 0 ∷ 255 ∷ 2 ∷ 0 ∷ 0 ∷ 0
     ∷ 1 ∷ 3 ∷ 1 ∷ 3 ∷ 0 ∷ 0 ∷ 0 ∷ 0
     ∷ 1 ∷ 4 ∷ 1 ∷ 255 ∷ 0 ∷ 0 ∷ 0 ∷ 0
@@ -46,8 +47,9 @@ everyTable =
     ∷ 7 ∷ 9 ∷ 0 ∷ 255 ∷ 1 ∷ 0 ∷ 0 ∷ 0
     ∷ 1 ∷ 8 ∷ 6 ∷ 255 ∷ 0 ∷ 0 ∷ 0 ∷ 0
     ∷ 1 ∷ 9 ∷ 6 ∷ 255 ∷ 0 ∷ 0 ∷ 0 ∷ 0
-    ∷ 8 ∷ 11 ∷ 0 ∷ 255 ∷ 0 ∷ 0 ∷ 0 ∷ 0
-    ∷ 1 ∷ 11 ∷ 9 ∷ 10 ∷ 0 ∷ 0 ∷ 0 ∷ 0
+    ∷ 8 ∷ 12 ∷ 0 ∷ 255 ∷ 0 ∷ 0 ∷ 0 ∷ 0
+    ∷ 4 ∷ 12 ∷ 9 ∷ 10 ∷ 1 ∷ 0 ∷ 0 ∷ 0
+    ∷ 1 ∷ 12 ∷ 10 ∷ 255 ∷ 0 ∷ 0 ∷ 0 ∷ 0
     ∷ []
 
 -- n bytes that a call is to write, and two further ones
@@ -60,9 +62,9 @@ buffer n = replicate n 9 ++ further
 -- "an output buffer's further bytes are untouched"
 pub program-buffers : Holds
     (compiledInto started (buffer 27) gets (table ++ further)
-    ∷ compiledInto every (buffer 91) gets (everyTable ++ further)
+    ∷ compiledInto every (buffer 99) gets (everyTable ++ further)
     ∷ decompiledInto table (buffer 18) gets (started ++ further)
-    ∷ decompiledInto everyTable (buffer 58) gets (every ++ further)
+    ∷ decompiledInto everyTable (buffer 63) gets (every ++ further)
     ∷ [])
 unfolding decompile
 program-buffers = refl
@@ -174,31 +176,52 @@ pub allowed-fields : Holds
 unfolding allowed
 allowed-fields = refl
 
--- Of the second program: its marks, those of its SEQ, MAINTAIN, CHOICE and REPEAT each with those of its children
-abbrev marked : ℕ → ℕ → List ℕ → List ℕ → List ℕ → List ℕ → Bool
-marked phase root seq maintain choice repeat = allowed everyTable (recordBytes phase 0 (0 ∷ []) [] [] (root ∷ seq ++ (maintain ++ (choice ++ repeat))))
+-- Of the second program: the root's mark and those of the parts inside it, as they are when it begins, and with other marks for one child and for
+-- what is inside that
+abbrev marked : ℕ → ℕ → List ℕ → Bool
+marked phase root inside = allowed everyTable (recordBytes phase 0 (0 ∷ []) [] [] (root ∷ inside))
+
+abbrev fresh : List ℕ
+fresh = 1 ∷ 1 ∷ 0 ∷ 1 ∷ 1 ∷ 1 ∷ 0 ∷ 0 ∷ 1 ∷ 1 ∷ 1 ∷ []
+
+abbrev seq : List ℕ → Bool
+seq marks = marked 0 1 (sets fresh 0 marks)
+
+abbrev maintain : ℕ → List ℕ → Bool
+maintain phase marks = marked phase 1 (sets fresh 3 marks)
+
+abbrev choice : List ℕ → Bool
+choice marks = marked 0 1 (sets fresh 5 marks)
+
+abbrev repeat : List ℕ → Bool
+repeat marks = marked 0 1 (sets fresh 8 marks)
 
 -- "in phase 2 no mark is set, otherwise the root is marked; nothing is marked inside an unmarked part; a marked SEQ or REPEAT has exactly one marked
 -- child, PAR at least one, CHOICE at most one; MAINTAIN's child is marked, or in phase 1 may be unmarked"
 pub allowed-marks : Holds
-    (marked 0 1 (1 ∷ 1 ∷ 0 ∷ []) (1 ∷ 1 ∷ []) (1 ∷ 0 ∷ 0 ∷ []) (1 ∷ 1 ∷ []) gets true
-    ∷ marked 2 1 (1 ∷ 1 ∷ 0 ∷ []) (1 ∷ 1 ∷ []) (1 ∷ 0 ∷ 0 ∷ []) (1 ∷ 1 ∷ []) gets false
-    ∷ marked 2 0 (0 ∷ 0 ∷ 0 ∷ []) (0 ∷ 0 ∷ []) (0 ∷ 0 ∷ 0 ∷ []) (0 ∷ 0 ∷ []) gets true
-    ∷ marked 0 0 (0 ∷ 0 ∷ 0 ∷ []) (0 ∷ 0 ∷ []) (0 ∷ 0 ∷ 0 ∷ []) (0 ∷ 0 ∷ []) gets false
-    ∷ marked 1 0 (0 ∷ 0 ∷ 0 ∷ []) (0 ∷ 0 ∷ []) (0 ∷ 0 ∷ 0 ∷ []) (0 ∷ 0 ∷ []) gets false
-    ∷ marked 0 0 (0 ∷ 0 ∷ 0 ∷ []) (0 ∷ 0 ∷ []) (0 ∷ 0 ∷ 0 ∷ []) (1 ∷ 1 ∷ []) gets false
-    ∷ marked 0 1 (0 ∷ 0 ∷ 0 ∷ []) (0 ∷ 0 ∷ []) (0 ∷ 0 ∷ 0 ∷ []) (0 ∷ 0 ∷ []) gets false
-    ∷ marked 0 1 (1 ∷ 0 ∷ 1 ∷ []) (0 ∷ 0 ∷ []) (0 ∷ 0 ∷ 0 ∷ []) (0 ∷ 0 ∷ []) gets true
-    ∷ marked 0 1 (1 ∷ 0 ∷ 0 ∷ []) (0 ∷ 0 ∷ []) (0 ∷ 0 ∷ 0 ∷ []) (0 ∷ 0 ∷ []) gets false
-    ∷ marked 0 1 (1 ∷ 1 ∷ 1 ∷ []) (0 ∷ 0 ∷ []) (0 ∷ 0 ∷ 0 ∷ []) (0 ∷ 0 ∷ []) gets false
-    ∷ marked 0 1 (0 ∷ 1 ∷ 0 ∷ []) (1 ∷ 1 ∷ []) (0 ∷ 0 ∷ 0 ∷ []) (0 ∷ 0 ∷ []) gets false
-    ∷ marked 0 1 (0 ∷ 0 ∷ 0 ∷ []) (1 ∷ 0 ∷ []) (0 ∷ 0 ∷ 0 ∷ []) (0 ∷ 0 ∷ []) gets false
-    ∷ marked 1 1 (0 ∷ 0 ∷ 0 ∷ []) (1 ∷ 0 ∷ []) (0 ∷ 0 ∷ 0 ∷ []) (0 ∷ 0 ∷ []) gets true
-    ∷ marked 0 1 (0 ∷ 0 ∷ 0 ∷ []) (0 ∷ 0 ∷ []) (1 ∷ 1 ∷ 0 ∷ []) (0 ∷ 0 ∷ []) gets true
-    ∷ marked 0 1 (0 ∷ 0 ∷ 0 ∷ []) (0 ∷ 0 ∷ []) (1 ∷ 0 ∷ 1 ∷ []) (0 ∷ 0 ∷ []) gets true
-    ∷ marked 0 1 (0 ∷ 0 ∷ 0 ∷ []) (0 ∷ 0 ∷ []) (1 ∷ 1 ∷ 1 ∷ []) (0 ∷ 0 ∷ []) gets false
-    ∷ marked 0 1 (0 ∷ 0 ∷ 0 ∷ []) (0 ∷ 0 ∷ []) (0 ∷ 0 ∷ 0 ∷ []) (1 ∷ 0 ∷ []) gets false
-    ∷ marked 0 1 (0 ∷ 0 ∷ 0 ∷ []) (0 ∷ 0 ∷ []) (0 ∷ 0 ∷ 0 ∷ []) (1 ∷ 1 ∷ []) gets true
+    (marked 0 1 fresh gets true
+    ∷ marked 1 1 fresh gets true
+    ∷ marked 2 1 fresh gets false
+    ∷ marked 2 0 [] gets true
+    ∷ marked 0 0 [] gets false
+    ∷ marked 1 0 [] gets false
+    ∷ marked 0 0 fresh gets false
+    ∷ marked 0 1 [] gets false
+    ∷ marked 0 1 (1 ∷ 1 ∷ 0 ∷ []) gets true
+    ∷ seq (0 ∷ 0 ∷ 0 ∷ []) gets true
+    ∷ seq (0 ∷ 0 ∷ 1 ∷ []) gets false
+    ∷ seq (1 ∷ 0 ∷ 0 ∷ []) gets false
+    ∷ seq (1 ∷ 0 ∷ 1 ∷ []) gets true
+    ∷ seq (1 ∷ 1 ∷ 1 ∷ []) gets false
+    ∷ maintain 0 (1 ∷ 0 ∷ []) gets false
+    ∷ maintain 1 (1 ∷ 0 ∷ []) gets true
+    ∷ maintain 1 (0 ∷ 1 ∷ []) gets false
+    ∷ choice (1 ∷ 1 ∷ 0 ∷ []) gets true
+    ∷ choice (1 ∷ 0 ∷ 1 ∷ []) gets true
+    ∷ choice (1 ∷ 1 ∷ 1 ∷ []) gets false
+    ∷ repeat (1 ∷ 0 ∷ 0 ∷ []) gets false
+    ∷ repeat (1 ∷ 1 ∷ 0 ∷ []) gets false
+    ∷ repeat (1 ∷ 0 ∷ 1 ∷ []) gets false
     ∷ [])
 unfolding allowed
 allowed-marks = refl
