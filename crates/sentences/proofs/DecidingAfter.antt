@@ -18,8 +18,10 @@ use Rattle.meaning.specs.Cycle.{beginsIn, situation}
 use Rattle.meaning.proofs.Tables.{Later, inside}
 use Rattle.meaning.proofs.Nesting.{lower, nested, parent-inside}
 use Rattle.sentences.specs.Marks.{Marked, Deciding}
-use Rattle.sentences.specs.Stepping.{BegunWith, itself, child, StaysMarked, childTaken, Initialises, MarkedBy, SettlingSteps}
+use Rattle.sentences.specs.Allowed.{Child}
+use Rattle.sentences.specs.Stepping.{BegunWith, itself, StaysMarked, childTaken, Initialises, MarkedBy, SettlingSteps}
 use Rattle.sentences.proofs.AllowedRecords.{parts-allowed}
+use Rattle.sentences.proofs.Initialised.{begun-ind}
 use Rattle.sentences.proofs.Settlings.{insideBefore, insideAfter, endsAt, empty-deciding, composite-ends, deciding-stays, takes-inside}
 use Rattle.sentences.proofs.AfterSettling.{number-fits, by-marked, spread, initialised-apart, inside-after}
 use Rattle.sentences.proofs.Endings.{same-by, settling-endings, determined}
@@ -27,17 +29,13 @@ use Rattle.sentences.proofs.Endings.{same-by, settling-endings, determi
 -- "and none of CHOICE's": nothing is marked inside a CHOICE by the initialising of it or of a part around it
 begun-none : (t : List ℕ) → isTable t ≡ true → (x p : ℕ) → kindAt t p ≡ CHOICE → x ≤ p → {n : ℕ} → Inside t p n → BegunWith t x n → ⊥
 unfolding beginsIn
-begun-none t h x p k a i itself = omega (arith, i)
-begun-none t h x p k a i (child u n b c e) = go (parent-inside t h p n i) (λ j. begun-none t h x p k a j b)
+begun-none t h x p k a i b = begun-ind t x (λ n. Inside t p n → ⊥) (λ j. omega (arith, j)) (λ u n none c e j. go u n none c e (parent-inside t h p n j)) b i
   where
-    own : parentAt t n ≡ p → beginsIn (kindAt t u) u n ≡ true → ⊥
-    own d f =
+    go : (u n : ℕ) → (Inside t p u → ⊥) → Child t u n → beginsIn (kindAt t u) u n ≡ true → (parentAt t n ≡ p) ⊎ Inside t p (parentAt t n) → ⊥
+    go u n none c e (inl d) =
         let same : u ≡ p = sym (c .parent-is) ∙ d in
-        false≢true (rw (same, k) at f)
-
-    go : (parentAt t n ≡ p) ⊎ Inside t p (parentAt t n) → (Inside t p u → ⊥) → ⊥
-    go (inl d) none = own d e
-    go (inr j) none = none (rw (c .parent-is) at j)
+        false≢true (rw (same, k) at e)
+    go u n none c e (inr j) = none (rw (c .parent-is) at j)
 
 module _ (t : List ℕ) (h : isTable t ≡ true) (sit : Situation) (ms : List ℕ) (long : length ms ≡ parts t) where
   abbrev ends : ℕ → Bool

@@ -3,21 +3,24 @@ use Prim.Native.Nat.{ℕ, zero, suc, _+_, _-_, _≤_, _<_}
 use native.Mathlib.Nat.{add-zero, add-suc, suc-add, sub-self, le-of-suc-le-suc, eq-or-lt-of-le}
 use native.Mathlib.Omega.{arith}
 use mathlib.Core.Path.{_≡_, refl, sym, ap, subst, _∙_}
-use mathlib.Core.Bool.{Bool, true, false, cond, _&&_, and-true, and-false}
+use mathlib.Core.Bool.{Bool, true, false, cond, _&&_, and-true, and-false, false≢true}
 use mathlib.Core.Logic.{_↔_, _⊎_, inl, inr}
 use mathlib.Core.List.{List, _++_}
 use lib.ListN.{length, getD, drop, replicate}
 use lib.Seq.{drop-append-seam}
+use borrow.Author.Tests.{eqb-true, eq-eqb}
 use Rattle.base.specs.Lists.{flag}
 use Rattle.base.proofs.Lists.{and-left, and-right}
+use Rattle.meaning.specs.Kinds.{Kind, UNKNOWN, GOAL, START, WAIT, SEQ, PAR, MAINTAIN, CHOICE, REPEAT}
 use Rattle.meaning.specs.Program.{parts, clocks}
-use Rattle.meaning.specs.Table.{endAt, parentAt, Inside, insideOf, isTable}
+use Rattle.meaning.specs.Table.{kindAt, endAt, parentAt, Inside, insideOf, isTable}
 use Rattle.meaning.specs.Record.{recordLength, waiting, isMark, recordBytes}
-use Rattle.meaning.specs.Cycle.{begins, initialMarksFrom, initialMarks, beginRefusal, begunInto}
+use Rattle.meaning.specs.Cycle.{beginsIn, begins, initialMarksFrom, initialMarks, beginRefusal, begunInto}
 use Rattle.meaning.proofs.Tables.{inside as within}
 use Rattle.meaning.proofs.Records.{Fits, length-record, phase-read, time-read, estimate-read, started-read, starts-read, marks-read, length-initial, length-root, begin-tests, begun-fits, begun-bytes}
 use Rattle.sentences.specs.Fields.{Fields}
-use Rattle.sentences.specs.Stepping.{BegunWith, itself, child}
+use Rattle.sentences.specs.Allowed.{Child}
+use Rattle.sentences.specs.Stepping.{BegunWith, itself, seq-first, par-all, maintain-child, repeat-child}
 use Rattle.meaning.proofs.Nesting.{nested, parent-inside, inside-parent, Closed, closed-inside, closed-none, closed-rest}
 
 -- part q's marks once it is initialised, by the numbers of the parts
@@ -118,6 +121,30 @@ module _ (t : List ℕ) (table : isTable t ≡ true) (q : ℕ) (marked : ℕ →
       first-or n p h (rw (o .idle n (omega arith) (omega arith) own (inside-parent t table q n own .0), and-false) m)
       (initialised-from k (suc n) skip (omega arith) (open-skipped n skip o m) (λ j l. rw (suc-add n j, ← add-suc n j) (f (suc j) (omega arith))) p i)
 
+-- "SEQ's first child, all of PAR's, MAINTAIN's and REPEAT's child, and none of CHOICE's", kind by kind and in one
+module _ (t : List ℕ) (q : ℕ) where
+  pub begun-ind : (P : ℕ → Type 0) → P q → ((u p : ℕ) → P u → Child t u p → beginsIn (kindAt t u) u p ≡ true → P p) → {p : ℕ} → BegunWith t q p → P p
+  unfolding beginsIn
+  begun-ind P own step itself = own
+  begun-ind P own step (seq-first u b k c) = step u (suc u) (begun-ind P own step b) c (rw k (eq-eqb (suc u) (suc u) refl))
+  begun-ind P own step (par-all u p b k c) = step u p (begun-ind P own step b) c (rw k)
+  begun-ind P own step (maintain-child u p b k c) = step u p (begun-ind P own step b) c (rw k)
+  begun-ind P own step (repeat-child u p b k c) = step u p (begun-ind P own step b) c (rw k)
+
+  begun-child : (u p : ℕ) → BegunWith t q u → Child t u p → (k : Kind) → kindAt t u ≡ k → beginsIn k u p ≡ true → BegunWith t q p
+  unfolding beginsIn
+  begun-child u p b c UNKNOWN k e = absurd (false≢true e)
+  begun-child u p b c GOAL k e = absurd (false≢true e)
+  begun-child u p b c START k e = absurd (false≢true e)
+  begun-child u p b c WAIT k e = absurd (false≢true e)
+  begun-child u p b c SEQ k e =
+      let first : suc u ≡ p = sym (eqb-true p (suc u) e) in
+      subst (BegunWith t q) first (seq-first u b k (rw first c))
+  begun-child u p b c PAR k e = par-all u p b k c
+  begun-child u p b c MAINTAIN k e = maintain-child u p b k c
+  begun-child u p b c CHOICE k e = absurd (false≢true e)
+  begun-child u p b c REPEAT k e = repeat-child u p b k c
+
 flag-true : (b : Bool) → isMark (flag b) ≡ true → b ≡ true
 flag-true true e = refl
 flag-true false e = e
@@ -157,19 +184,19 @@ module _ (t : List ℕ) (table : isTable t ≡ true) (q : ℕ) where
           let e : suc q + j - q ≡ suc j = omega arith in
           rw e
 
-  -- a part that is marked where part q is initialised is q, or stands inside it
-  pub begun-within : q < endAt t q → {p : ℕ} → BegunWith t q p → (q ≤ p) × (p < endAt t q)
-  begun-within a itself = (omega arith, a)
-  begun-within a (child u p b c e) = go (begun-within a b)
+  -- a child of part q, or of a part inside it, stands inside it
+  child-within : (u p : ℕ) → (q ≤ u) × (u < endAt t q) → Child t u p → Inside t q p
+  child-within u p i c = go (eq-or-lt-of-le (i .0))
     where
-      go : (q ≤ u) × (u < endAt t q) → (q ≤ p) × (p < endAt t q)
-      go i = at (eq-or-lt-of-le (i .0))
-        where
-          at : (q ≡ u) ⊎ (q < u) → (q ≤ p) × (p < endAt t q)
-          at (inl f) = rw f (omega (arith, c .after), c .before-end)
-          at (inr f) = omega (arith, i .0, c .after, c .before-end, nested t table q u (f, i .1))
+      go : (q ≡ u) ⊎ (q < u) → Inside t q p
+      go (inl f) = rw f (c .after, c .before-end)
+      go (inr f) = omega (arith, c .after, c .before-end, nested t table q u (f, i .1))
 
-  -- so is the parent of a part inside it
+  -- so a part that is marked where part q is initialised is q or stands inside it
+  pub begun-within : q < endAt t q → {p : ℕ} → BegunWith t q p → (q ≤ p) × (p < endAt t q)
+  begun-within a = begun-ind t q (λ p. (q ≤ p) × (p < endAt t q)) (omega arith) (λ u p i c e. omega (arith, child-within u p i c))
+
+  -- and so does the parent of a part inside it, or it is q
   parent-within : (p u : ℕ) → Inside t q p → parentAt t p ≡ u → (q ≤ u) × (u < endAt t q)
   parent-within p u i e = go (parent-inside t table q p i)
     where
@@ -179,11 +206,12 @@ module _ (t : List ℕ) (table : isTable t ≡ true) (q : ℕ) where
 
   -- the same as the marks say it
   begun-marked : q < endAt t q → {p : ℕ} → BegunWith t q p → isMark (markOf p) ≡ true
-  begun-marked a itself = rw (sub-self, initialised-itself t q)
-  begun-marked a (child u p b c e) = go (begun-marked a b) (begun-within a b)
+  begun-marked a b = begun-ind t q (λ p. (q ≤ p) × (p < endAt t q) × (isMark (markOf p) ≡ true)) (omega arith, a, rw (sub-self, initialised-itself t q)) step b .2
     where
-      go : isMark (markOf u) ≡ true → (q ≤ u) × (u < endAt t q) → isMark (markOf p) ≡ true
-      go m i = rw (initialised-inside p (omega (arith, c .after, i .0, begun-within a (child u p b c e))), c .parent-is, e, m)
+      step : (u p : ℕ) → (q ≤ u) × (u < endAt t q) × (isMark (markOf u) ≡ true) → Child t u p → beginsIn (kindAt t u) u p ≡ true → (q ≤ p) × (p < endAt t q) × (isMark (markOf p) ≡ true)
+      step u p i c e =
+          let j = child-within u p (i .0, i .1) c in
+          (omega (arith, j), j .1, rw (initialised-inside p j, c .parent-is, e, i .2))
 
   begun-step : q < endAt t q → (p : ℕ) → q ≤ p → p < endAt t q → isMark (markOf p) ≡ true → ((u : ℕ) → u < p → q ≤ u → u < endAt t q → isMark (markOf u) ≡ true → BegunWith t q u) → BegunWith t q p
   begun-step a p from before m outer = go (eq-or-lt-of-le from)
@@ -196,7 +224,7 @@ module _ (t : List ℕ) (table : isTable t ≡ true) (q : ℕ) where
           let b = flag-true (begins t p && isMark (markOf u)) (rw (initialised-inside p i) at m) in
           let its = inside-parent t table q p i in
           let above = parent-within p u i refl in
-          child u p (outer u (its .0) (above .0) (above .1) (and-right (begins t p) (isMark (markOf u)) b)) (record { after = its .0; before-end = its .1; parent-is = refl }) (and-left (begins t p) (isMark (markOf u)) b)
+          begun-child t q u p (outer u (its .0) (above .0) (above .1) (and-right (begins t p) (isMark (markOf u)) b)) (record { after = its .0; before-end = its .1; parent-is = refl }) (kindAt t u) refl (and-left (begins t p) (isMark (markOf u)) b)
 
   marked-begun : q < endAt t q → (k p : ℕ) → p < k → q ≤ p → p < endAt t q → isMark (markOf p) ≡ true → BegunWith t q p
   marked-begun a zero p l from before m = absurd (omega arith)

@@ -9,12 +9,16 @@ use Rattle.meaning.specs.declared.Form.the-variants.{Table}
 use Rattle.meaning.specs.Kinds.{GOAL, START, CHOICE, value}
 use Rattle.meaning.specs.Program.{entryAt}
 use Rattle.meaning.specs.Table.{kindAt, operandOf, Inside}
-use Rattle.meaning.specs.Record.{isMark}
+use Rattle.meaning.specs.Record.{startedIn, isMark}
 use Rattle.meaning.specs.Cycle.{isKind}
 
 -- part p is marked
 abbrev pub Marked : List ℕ → ℕ → Type 0
 Marked ms p = isMark (getD ms p 0) ≡ true
+
+-- clock c is started
+abbrev pub Started : List ℕ → List ℕ → ℕ → Type 0
+Started t r c = Marked (startedIn t r) c
 
 -- "bytes of 0 or 1"
 abbrev pub Flags : List ℕ → Type 0

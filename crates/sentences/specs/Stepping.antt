@@ -7,13 +7,13 @@ use mathlib.Core.List.{List}
 use lib.ListN.{length, getD}
 use Rattle.meaning.specs.declared.Form.the-variants.{Table}
 use Rattle.meaning.specs.Sizes.{maxValue, noPart}
-use Rattle.meaning.specs.Kinds.{GOAL, START, WAIT, MAINTAIN}
+use Rattle.meaning.specs.Kinds.{GOAL, START, WAIT, SEQ, PAR, MAINTAIN, REPEAT}
 use Rattle.meaning.specs.Program.{variables, clocks, entryAt}
 use Rattle.meaning.specs.Table.{kindAt, operandOf, endAt, nextAt, Inside}
 use Rattle.meaning.specs.Conditions.{Situation, reached, satisfied, violated}
 use Rattle.meaning.specs.Record.{recordLength, phaseOf, lastTime, estimateIn, startedIn, startsIn, marksIn, waiting, offered, finished}
-use Rattle.meaning.specs.Cycle.{beginsIn, isLeaf, noGoal, contested, situation}
-use Rattle.sentences.specs.Marks.{Marked, Flags, Deciding, NoGoalAt, GoalsAgree, GoalsDiffer, StartAt}
+use Rattle.meaning.specs.Cycle.{isLeaf, noGoal, contested, situation}
+use Rattle.sentences.specs.Marks.{Marked, Started, Flags, Deciding, NoGoalAt, GoalsAgree, GoalsDiffer, StartAt}
 use Rattle.sentences.specs.Fields.{Spare}
 use Rattle.sentences.specs.Allowed.{Child}
 
@@ -21,7 +21,10 @@ use Rattle.sentences.specs.Allowed.{Child}
 -- the parts that are marked where part q is initialised
 pub data BegunWith (t : List ℕ) (q : ℕ) : ℕ → Type 0 where
   itself : BegunWith t q q
-  child : (u p : ℕ) → BegunWith t q u → Child t u p → beginsIn (kindAt t u) u p ≡ true → BegunWith t q p
+  seq-first : (u : ℕ) → BegunWith t q u → kindAt t u ≡ SEQ → Child t u (suc u) → BegunWith t q (suc u)
+  par-all : (u p : ℕ) → BegunWith t q u → kindAt t u ≡ PAR → Child t u p → BegunWith t q p
+  maintain-child : (u p : ℕ) → BegunWith t q u → kindAt t u ≡ MAINTAIN → Child t u p → BegunWith t q p
+  repeat-child : (u p : ℕ) → BegunWith t q u → kindAt t u ≡ REPEAT → Child t u p → BegunWith t q p
 
 -- "Beginning a run: phase 0, last time 0, no clock started, the estimate stored, the root initialised": buffer r, and r' after it
 pub record BeginningSteps (t est r r' : List ℕ) : Type 0 where
@@ -106,10 +109,10 @@ pub record SettlingSteps (t r est r' : List ℕ) : Type 0 where
   pub marks-settled : (p : ℕ) → Marked (marksIn t r') p ↔ (StaysMarked (marksIn t r) ends p ⊎ ((q : ℕ) × MarkedBy t (situation t r est (lastTime r)) (marksIn t r) ends q p))
   pub settled-flags : Flags (marksIn t r')
   -- "A marked START starts its clock at the last time unless that clock is already started"
-  pub clock-flags : (c : ℕ) → c < clocks t → Marked (startedIn t r') c ↔ (Marked (startedIn t r) c ⊎ ((p : ℕ) × StartAt t (marksIn t r) c p))
-  pub clock-kept : (c : ℕ) → c < clocks t → Marked (startedIn t r) c → getD (startsIn t r') c 0 ≡ getD (startsIn t r) c 0
-  pub clock-starts : (c : ℕ) → c < clocks t → (Marked (startedIn t r) c → ⊥) → Marked (startedIn t r') c → getD (startsIn t r') c 0 ≡ lastTime r
-  pub clock-unstarted : (c : ℕ) → c < clocks t → (Marked (startedIn t r') c → ⊥) → getD (startsIn t r') c 0 ≡ 0
+  pub clock-flags : (c : ℕ) → c < clocks t → Started t r' c ↔ (Started t r c ⊎ ((p : ℕ) × StartAt t (marksIn t r) c p))
+  pub clock-kept : (c : ℕ) → c < clocks t → Started t r c → getD (startsIn t r') c 0 ≡ getD (startsIn t r) c 0
+  pub clock-starts : (c : ℕ) → c < clocks t → (Started t r c → ⊥) → Started t r' c → getD (startsIn t r') c 0 ≡ lastTime r
+  pub clock-unstarted : (c : ℕ) → c < clocks t → (Started t r' c → ⊥) → getD (startsIn t r') c 0 ≡ 0
   pub started-flags : Flags (startedIn t r')
   -- "If the root ends, phase is 2 and the answer "finished", else 0 and "running""
   pub phase-settled : phaseOf r' ≡ cond (ends 0) finished waiting
