@@ -24,7 +24,7 @@ use Rattle.sentences.proofs.AllowedRecords.{parts-allowed}
 use Rattle.sentences.proofs.Initialised.{begun-ind}
 use Rattle.sentences.proofs.Settlings.{insideBefore, insideAfter, endsAt, empty-deciding, composite-ends, deciding-stays, takes-inside}
 use Rattle.sentences.proofs.AfterSettling.{number-fits, by-marked, spread, initialised-apart, inside-after}
-use Rattle.sentences.proofs.Endings.{same-by, settling-endings, determined}
+use Rattle.sentences.proofs.Endings.{same-by, same-after, settling-endings, determined}
 
 -- "and none of CHOICE's": nothing is marked inside a CHOICE by the initialising of it or of a part around it
 begun-none : (t : List ℕ) → isTable t ≡ true → (x p : ℕ) → kindAt t p ≡ CHOICE → x ≤ p → {n : ℕ} → Inside t p n → BegunWith t x n → ⊥
@@ -145,15 +145,10 @@ module _ (t r est r' : List ℕ) (h : isTable t ≡ true) (allowed : recordAllow
   same = determined t h sit (marksIn t r) whole (endsAt t sit (marksIn t r)) (s .ends) (settling-endings t h sit (marksIn t r) whole (phaseOf r) (parts-allowed t r allowed)) (s .endings)
 
   after : (n : ℕ) → Marked (marksIn t r') n ↔ After t h sit (marksIn t r) whole n
-  after n = (λ m. to (s .marks-settled n .0 m), λ a. s .marks-settled n .1 (from a))
-    where
-      to : StaysMarked (marksIn t r) (s .ends) n ⊎ ((q : ℕ) × MarkedBy t sit (marksIn t r) (s .ends) q n) → After t h sit (marksIn t r) whole n
-      to (inl (m, d)) = inl (m, same n ∙ d)
-      to (inr (q, g)) = inr (q, same-by t h sit (marksIn t r) whole (s .ends) (endsAt t sit (marksIn t r)) q n (sym (same q)) g)
-
-      from : After t h sit (marksIn t r) whole n → StaysMarked (marksIn t r) (s .ends) n ⊎ ((q : ℕ) × MarkedBy t sit (marksIn t r) (s .ends) q n)
-      from (inl (m, d)) = inl (m, sym (same n) ∙ d)
-      from (inr (q, g)) = inr (q, same-by t h sit (marksIn t r) whole (endsAt t sit (marksIn t r)) (s .ends) q n (same q) g)
+  after n = (
+    λ m. same-after t h sit (marksIn t r) whole (s .ends) (endsAt t sit (marksIn t r)) (λ q. sym (same q)) n (s .marks-settled n .0 m),
+    λ a. s .marks-settled n .1 (same-after t h sit (marksIn t r) whole (endsAt t sit (marksIn t r)) (s .ends) same n a),
+  )
 
   pub deciding-after : (p : ℕ) → Marked (marksIn t r') p → kindAt t p ≡ CHOICE → Deciding t (marksIn t r') p ↔ ((q : ℕ) × MarkedBy t (situation t r est (lastTime r)) (marksIn t r) (s .ends) q p)
   deciding-after p m k = (λ d. to d (s .marks-settled p .0 m), λ (q, g). (m, k, λ n i a. new-undecided t h sit (marksIn t r) whole (phaseOf r) (parts-allowed t r allowed) p k q (same-by t h sit (marksIn t r) whole (s .ends) (endsAt t sit (marksIn t r)) q p (sym (same q)) g) n i (after n .0 a)))

@@ -3,7 +3,7 @@ use Prim.Native.Nat.{ℕ, zero, suc, _+_, _≤_, _<_}
 use native.Mathlib.Omega.{arith}
 use mathlib.Core.Path.{_≡_, refl, sym, ap, _∙_}
 use mathlib.Core.Bool.{Bool, true, false, not, false≢true}
-use mathlib.Core.Logic.{_↔_, inl, inr}
+use mathlib.Core.Logic.{_↔_, _⊎_, inl, inr}
 use mathlib.Core.List.{List}
 use lib.ListN.{length, getD}
 use Rattle.base.proofs.Lists.{both-true}
@@ -19,7 +19,7 @@ use Rattle.meaning.specs.Cycle.{isLeaf}
 use Rattle.meaning.proofs.Lies.{Lies, own-row, own-kind}
 use Rattle.meaning.proofs.Nesting.{at}
 use Rattle.sentences.specs.Marks.{Marked, Deciding}
-use Rattle.sentences.specs.Stepping.{MarkedBy, MarkedInside, Endings}
+use Rattle.sentences.specs.Stepping.{StaysMarked, MarkedBy, MarkedInside, Endings}
 use Rattle.sentences.proofs.Settlings.{insideBefore, insideAfter, endsAt, Undeciding, marked-length, deciding-empty, empty-deciding, goal-ends, wait-ends, start-ends, composite-ends, deciding-stays}
 use Rattle.sentences.proofs.AfterSettling.{inside-after, after-inside}
 
@@ -95,6 +95,11 @@ module _ (t : List ℕ) (h : isTable t ≡ true) (sit : Situation) (ms : List �
   pub same-by : (e f : ℕ → Bool) (q n : ℕ) → e q ≡ f q → MarkedBy t sit ms e q n → MarkedBy t sit ms f q n
   same-by e f q n same (x, inl (d, a, b), g) = (x, inl (sym same ∙ d, a, b), g)
   same-by e f q n same (x, inr d, g) = (x, inr d, g)
+
+  -- what is marked after the settling from which parts end
+  pub same-after : (e f : ℕ → Bool) → ((q : ℕ) → e q ≡ f q) → (n : ℕ) → StaysMarked ms e n ⊎ ((q : ℕ) × MarkedBy t sit ms e q n) → StaysMarked ms f n ⊎ ((q : ℕ) × MarkedBy t sit ms f q n)
+  same-after e f same n (inl (m, d)) = inl (m, sym (same n) ∙ d)
+  same-after e f same n (inr (q, g)) = inr (q, same-by e f q n (same q) g)
 
   -- and what is marked inside a part from which parts inside it end
   same-inside : (e f : ℕ → Bool) (p : ℕ) → ((q : ℕ) → p < q → e q ≡ f q) → (n : ℕ) → MarkedInside t sit ms e p n → MarkedInside t sit ms f p n

@@ -25,12 +25,12 @@ use Rattle.meaning.proofs.Records.{length-checked}
 use Rattle.sentences.proofs.LeavesAt.{leaf-marked}
 
 -- a goal byte b says one of the three
-abbrev Says : ℕ → List ℕ → List ℕ → ℕ → Type 0
+abbrev pub Says : ℕ → List ℕ → List ℕ → ℕ → Type 0
 Says b t ms v = ((b ≡ noGoal) × NoGoalAt t ms v) ⊎ (((b ≤ maxValue) × GoalsAgree t ms v b) ⊎ ((b ≡ contested) × GoalsDiffer t ms v))
 
 -- no two of the three are said at once
 module _ (b : ℕ) (t ms : List ℕ) (v : ℕ) where
-  says-none : Says b t ms v → (b ≡ noGoal) ↔ NoGoalAt t ms v
+  pub says-none : Says b t ms v → (b ≡ noGoal) ↔ NoGoalAt t ms v
   says-none (inl (e, none)) = (λ h. none, λ n. e)
   says-none (inr (inl (l, ((p, g), same)))) = (λ h. absurd (omega arith), λ n. absurd (n p g))
   says-none (inr (inr (e, (p, q, g, k, d)))) = (λ h. absurd (omega arith), λ n. absurd (n p g))
@@ -100,7 +100,7 @@ module _ (t ms : List ℕ) (v : ℕ) where
       in-place x given (values-given v x (leavesFrom t 0 ms) ∙ leaf-marked (gives v x) (gives-leaf v x) t ms .1 (p, (l, a, rw (g, eq-eqb (operandOf t p .b1) v e, eq-eqb x x refl))))
 
   -- where no marked GOAL has a value above 250, a goal byte says one of the three
-  byte-says : ((p : ℕ) → GoalAt t ms v p → value (operandOf t p) ≤ maxValue) → Says (goalByte given) t ms v
+  pub byte-says : ((p : ℕ) → GoalAt t ms v p → value (operandOf t p) ≤ maxValue) → Says (goalByte given) t ms v
   byte-says fits = go given value-at value-of
     where
       go : (xs : List ℕ) → ((i : ℕ) → i < length xs → (p : ℕ) × GoalAt t ms v p × (value (operandOf t p) ≡ getD xs i 0))

@@ -19,3 +19,4 @@ pub mod Stepping
 pub mod InsteadInRuns
 pub mod OneTable
 pub mod LinkChecks
+pub mod Only

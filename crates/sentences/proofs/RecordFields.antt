@@ -11,12 +11,12 @@ use lib.Seq.{sets, length-sets}
 use Rattle.base.specs.Lists.{flat, bytesAt}
 use Rattle.base.proofs.Lists.{length-tabulate, getD-tabulate, tabulate-same}
 use Rattle.base.proofs.Stores.{length-bytes, getD-bytes, getD-sets-out, drop-bytes, bytes-sets-out, bytes-sets, drop-sets-out}
-use Rattle.meaning.specs.Sizes.{maxParts, timeWidth, littleEndian, littleEndianValue, timeLimit, byteValues}
+use Rattle.meaning.specs.Sizes.{maxParts, timeWidth, littleEndian, littleEndianValue, timeLimit}
 use Rattle.meaning.specs.Program.{parts, variables, clocks}
 use Rattle.meaning.specs.Table.{isTable}
 use Rattle.meaning.specs.Record.{timePlace, estimatePlace, startedPlace, startsPlace, marksPlace, recordLength, timeAt, lastTime, estimateIn, startedIn, startsIn, marksIn, offered, waiting, finished}
 use Rattle.meaning.specs.Cycle.{checkedMarks, offeredRecord, offerRefusal, offeredInto, settledMarks, settledRecord, settleRefusal, settledInto, rootEnded, startingLeaves, clockFlags, clockStarts}
-use Rattle.sentences.specs.Fields.{Fields, Spare}
+use Rattle.sentences.specs.Fields.{Fields, Bytes, Spare}
 use Rattle.meaning.proofs.Tables.{table-held}
 use Rattle.meaning.proofs.Records.{time-back, times-back, length-times, length-checked, length-settled, starts-below, allowed-long, estimate-fits}
 use Rattle.meaning.proofs.Refusals.{offer-tests, settle-tests, settled-phase}
@@ -136,7 +136,7 @@ put-length us (w ∷ ws) r = put-length us ws (sets r (fieldAt us (w .0) .0) (w 
 
 -- times are read from the bytes where they stand
 module _ (r q : List ℕ) (j n : ℕ) (e : bytesAt r j n ≡ bytesAt q j n) where
-  byte-same : (i : ℕ) → i < n → getD r (j + i) 0 ≡ getD q (j + i) 0
+  pub byte-same : (i : ℕ) → i < n → getD r (j + i) 0 ≡ getD q (j + i) 0
   byte-same i h = sym (getD-bytes r j n i h) ∙ ap (λ (x : List ℕ). getD x i 0) e ∙ getD-bytes q j n i h
 
   part-same : (w i : ℕ) → i + w ≤ n → bytesAt r (j + i) w ≡ bytesAt q (j + i) w
@@ -150,7 +150,7 @@ times-same : (t r q : List ℕ) → bytesAt r startsPlace (timeWidth * clocks t)
 times-same t r q e =
     tabulate-same (λ c. timeAt r (startsPlace + timeWidth * c)) (λ c. timeAt q (startsPlace + timeWidth * c)) 0 (clocks t) (λ c a b. time-same r q startsPlace (timeWidth * clocks t) e (timeWidth * c) (omega arith))
 
-time-small : (r : List ℕ) → ((i : ℕ) → getD r i 0 < byteValues) → (i : ℕ) → timeAt r i < timeLimit
+time-small : (r : List ℕ) → Bytes r → (i : ℕ) → timeAt r i < timeLimit
 time-small r small i = omega (arith, small i, small (suc i), small (suc (suc i)), small (suc (suc (suc i))))
 
 times-read : (t r xs : List ℕ) → length xs ≡ clocks t → ((c : ℕ) → c < length xs → getD xs c 0 < timeLimit) → startsPlace + timeWidth * clocks t ≤ length r → bytesAt r startsPlace (timeWidth * clocks t) ≡ flat (littleEndian timeWidth) xs → startsIn t r ≡ xs
@@ -197,7 +197,7 @@ module _ (t r est : List ℕ) (h : settleRefusal t r est ≡ 0) where
   abbrev times : List ℕ
   times = clockStarts (clocks t) (startingLeaves t r) (startedIn t r) (startsIn t r) (lastTime r)
 
-  times-small : ((i : ℕ) → getD r i 0 < byteValues) → (c : ℕ) → c < clocks t → getD times c 0 < timeLimit
+  times-small : Bytes r → (c : ℕ) → c < clocks t → getD times c 0 < timeLimit
   times-small bytes =
       starts-below (clocks t) (startingLeaves t r) (startedIn t r) (startsIn t r) (lastTime r) (timeLimit)
       (λ c l. rw getD-tabulate (time-small r bytes (startsPlace + timeWidth * (0 + c))))
@@ -215,7 +215,7 @@ module _ (t r est : List ℕ) (h : settleRefusal t r est ≡ 0) where
       (omega arith, refl, (omega arith, estimate-fits t est (settle-tests t r est h .1 .1 .1 .1 .0) .0, (omega arith, length-tabulate _ 0 (clocks t), (omega arith, w, (omega arith, length-settled t _ 0 (marksIn t r) ∙ length-bytes r marksPlace (parts t), tt)))))
 
   -- a time is read back where the record is one of bytes
-  pub settled-record : ((i : ℕ) → getD r i 0 < byteValues)
+  pub settled-record : Bytes r
       → Fields t (settledInto t r est) (cond (rootEnded (settledMarks t r est)) finished waiting) (lastTime r) est flags times (settledMarks t r est) (drop recordLength r)
   unfolding settledInto
   settled-record bytes =

@@ -16,7 +16,7 @@ use Rattle.base.proofs.Lists.{each-passes}
 use Rattle.base.proofs.Stores.{length-bytes, getD-bytes}
 use Rattle.meaning.specs.declared.Entry.{Entry}
 use Rattle.meaning.specs.declared.Form.the-variants.{Table}
-use Rattle.meaning.specs.Sizes.{timeLimit, byteValues}
+use Rattle.meaning.specs.Sizes.{timeLimit}
 use Rattle.meaning.specs.Kinds.{MAINTAIN, kindOf, numberOf}
 use Rattle.meaning.specs.Program.{parts, variables, clocks, entryAt}
 use Rattle.meaning.specs.Table.{kindAt, operandOf, endAt, Inside, isTable}
@@ -29,7 +29,7 @@ use Rattle.meaning.proofs.Refusals.{offer-tests, goal-bytes-into, settle-tests}
 use Rattle.meaning.proofs.Tables.{root-there, root-end}
 use Rattle.meaning.proofs.Records.{length-root, begin-tests, begun-fits, begun-bytes, rest-zero, flags-small}
 use Rattle.sentences.specs.Marks.{Marked, Flags}
-use Rattle.sentences.specs.Fields.{Spare}
+use Rattle.sentences.specs.Fields.{Bytes, Spare}
 use Rattle.sentences.specs.Stepping.{BegunWith, BeginningSteps, Broken, OfferSteps, SettlingSteps}
 use Rattle.sentences.proofs.Initialised.{begun-within, initialised-begun, begun-record}
 use Rattle.sentences.proofs.AllowedRecords.{is-mark, rest-right, exactly-allowed, parts-allowed}
@@ -177,7 +177,7 @@ module _ (t r est : List ℕ) (h : settleRefusal t r est ≡ 0) where
       is-mark (getD (marksIn t r) 0 0) .1 (a .root-marked (λ e. false≢true (rw (eq-eqb (phaseOf r) finished e) at (settle-tests t r est h .1 .1 .0))))
 
   -- a time is read back where the record is one of bytes
-  pub settling-steps : ((i : ℕ) → getD r i 0 < byteValues) → SettlingSteps t r est (settledInto t r est)
+  pub settling-steps : Bytes r → SettlingSteps t r est (settledInto t r est)
   settling-steps bytes =
       let table : isTable t ≡ true = settle-tests t r est h .0 in
       let sit : Situation = situation t r est (lastTime r) in

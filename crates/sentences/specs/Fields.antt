@@ -3,8 +3,8 @@ use Prim.Native.Nat.{ℕ, _+_, _*_, _≤_, _<_}
 use mathlib.Core.Path.{_≡_}
 use mathlib.Core.Logic.{_⊎_}
 use mathlib.Core.List.{List}
-use lib.ListN.{drop}
-use Rattle.meaning.specs.Sizes.{timeWidth}
+use lib.ListN.{getD, drop}
+use Rattle.meaning.specs.Sizes.{timeWidth, byteValues}
 use Rattle.meaning.specs.Program.{parts, variables, clocks}
 use Rattle.meaning.specs.Record.{estimatePlace, startedPlace, startsPlace, marksPlace, recordLength, phaseOf, lastTime, estimateIn, startedIn, startsIn, marksIn}
 
@@ -18,7 +18,11 @@ pub record Fields (t r : List ℕ) (phase time : ℕ) (est started starts marks 
   pub marks-are : marksIn t r ≡ marks
   pub more-is : drop recordLength r ≡ more
 
--- a byte of "entries beyond V, K and N", or one after the record
+-- a list of bytes
+abbrev pub Bytes : List ℕ → Type 0
+Bytes r = (i : ℕ) → getD r i 0 < byteValues
+
+-- the place of a byte of "entries beyond V, K and N", or of one after the record
 abbrev pub Spare : List ℕ → ℕ → Type 0
 Spare t i =
     ((estimatePlace + variables t ≤ i) × (i < startedPlace))
