@@ -1,4 +1,5 @@
--- What a board may compute instead, on its marks: each law says that it comes to the same.
+-- What a board may compute instead, on its marks: each law says that it comes to the same. Beside these, `Initialised.initialised-inside` has
+-- initialising by parents, and `Lowest.marked-inside` in run_marks whether something is marked inside a part, by the lowest marked part after it.
 use Prim.Native.Nat.{ℕ, zero, suc, _+_, _≤_, _<_}
 use native.Mathlib.Nat.{zero-add, add-zero, eq-zero-or-pos}
 use native.Mathlib.Omega.{arith}

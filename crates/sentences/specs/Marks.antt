@@ -30,11 +30,11 @@ Deciding t ms p = Marked ms p × (kindAt t p ≡ CHOICE) × ((q : ℕ) → Insid
 
 -- part p is marked, and its entry passes a test
 abbrev pub MarkedAt : (Entry → Bool) → List ℕ → List ℕ → ℕ → Type 0
-MarkedAt f t ms p = (p < length ms) × (isMark (getD ms p 0) ≡ true) × (f (entryAt Table t p) ≡ true)
+MarkedAt f t ms p = (p < length ms) × Marked ms p × (f (entryAt Table t p) ≡ true)
 
 -- part p is a marked GOAL that names variable v
 abbrev pub GoalAt : List ℕ → List ℕ → ℕ → ℕ → Type 0
-GoalAt t ms v p = (p < length ms) × (isMark (getD ms p 0) ≡ true) × (isKind GOAL (entryAt Table t p) ≡ true) × (operandOf t p .b1 ≡ v)
+GoalAt t ms v p = (p < length ms) × Marked ms p × (isKind GOAL (entryAt Table t p) ≡ true) × (operandOf t p .b1 ≡ v)
 
 -- "where no marked GOAL names that variable", "where all agree" on value x, "where two differ"
 abbrev pub NoGoalAt : List ℕ → List ℕ → ℕ → Type 0
@@ -48,4 +48,4 @@ GoalsDiffer t ms v = (p : ℕ) × (q : ℕ) × GoalAt t ms v p × GoalAt t ms v 
 
 -- part p is a marked START of clock c
 abbrev pub StartAt : List ℕ → List ℕ → ℕ → ℕ → Type 0
-StartAt t ms c p = (p < length ms) × (isMark (getD ms p 0) ≡ true) × (isKind START (entryAt Table t p) ≡ true) × (operandOf t p .b1 ≡ c)
+StartAt t ms c p = (p < length ms) × Marked ms p × (isKind START (entryAt Table t p) ≡ true) × (operandOf t p .b1 ≡ c)
