@@ -136,6 +136,7 @@ same-starts t a b same =
     same-list (startsIn t a) (startsIn t b) (long a ∙ sym (long b)) (λ c l. same c (rw (long a) at l))
 
 module _ (t est r a b : List ℕ) (x : BeginningSteps t est r a) (y : BeginningSteps t est r b) where
+  -- two records that meet the sentences about one beginning are the same
   pub beginning-only : Bytes a → Bytes b → a ≡ b
   beginning-only small others =
       same-record t a b small others
@@ -167,6 +168,7 @@ module _ (t r : List ℕ) (time : ℕ) (goals a ga b gb : List ℕ) (x : OfferSt
       go g (inr (inl (e, agree))) = x .goal-value v l g .1 agree .0 ∙ sym (y .goal-value v l g .1 (subst (λ ms. GoalsAgree t ms v g) offered-marks agree) .0)
       go g (inr (inr (e, differ))) = x .goal-differs v l .1 differ ∙ sym (y .goal-differs v l .1 (subst (λ ms. GoalsDiffer t ms v) offered-marks differ))
 
+  -- two records, and two goal buffers, that meet those about one offer
   pub offer-only : isTable t ≡ true → Bytes a → Bytes b → (a ≡ b) × (ga ≡ gb)
   offer-only h small others = (
     same-record t a b small others
@@ -216,6 +218,7 @@ module _ (t r est a b : List ℕ) (h : isTable t ≡ true) (x : SettlingSteps t 
       go false d true e = x .clock-starts c l (λ f. false≢true (sym d ∙ f)) e ∙ sym (y .clock-starts c l (λ f. false≢true (sym d ∙ f)) (rw flags-same at e))
       go false d false e = x .clock-unstarted c l (λ f. false≢true (sym e ∙ f)) ∙ sym (y .clock-unstarted c l (λ f. false≢true (sym (rw flags-same at e) ∙ f)))
 
+  -- two records that meet those about one settling
   pub settling-only : Bytes a → Bytes b → a ≡ b
   settling-only small others =
       same-record t a b small others

@@ -81,6 +81,7 @@ module _ (t est r : List ℕ) (h : beginRefusal t est (length r) ≡ 0) where
   unfolding begunInto
   begun-length = rw (h, length-sets)
 
+  -- a beginning that is not refused
   pub beginning-steps : BeginningSteps t est r (begunInto t est r)
   beginning-steps =
       let table : isTable t ≡ true = begin-tests t est (length r) h .0 in
@@ -147,6 +148,7 @@ module _ (t r : List ℕ) (time : ℕ) (goals : List ℕ) (h : offerRefusal t r 
   goal-is : (v : ℕ) → v < variables t → getD (goalsInto t r time goals) v 0 ≡ getD (offeredGoals t r time) v 0
   goal-is v l = rw zero-add at (sym (getD-bytes (goalsInto t r time goals) 0 (variables t) v l)) ∙ ap (λ (x : List ℕ). getD x v 0) (goal-bytes-into t r time goals h .0)
 
+  -- an offer that is not refused
   pub offer-steps : time < timeLimit → OfferSteps t r time goals (offeredInto t r time (length goals)) (goalsInto t r time goals)
   offer-steps fits =
       let room : ℕ = length goals in
@@ -176,7 +178,7 @@ module _ (t r est : List ℕ) (h : settleRefusal t r est ≡ 0) where
       let a = exactly-allowed t r .0 (settle-tests t r est h .1 .0) in
       is-mark (getD (marksIn t r) 0 0) .1 (a .root-marked (λ e. false≢true (rw (eq-eqb (phaseOf r) finished e) at (settle-tests t r est h .1 .1 .0))))
 
-  -- a time is read back where the record is one of bytes
+  -- a settling that is not refused, of a record of bytes: only from bytes is a time read back
   pub settling-steps : Bytes r → SettlingSteps t r est (settledInto t r est)
   settling-steps bytes =
       let table : isTable t ≡ true = settle-tests t r est h .0 in
