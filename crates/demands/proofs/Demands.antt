@@ -1,19 +1,19 @@
 -- The three demands.
-use Prim.Native.Nat.{ℕ, _+_, _≤_, _<_}
+use Prim.Native.Nat.{ℕ, _+_, _≤_}
 use native.Mathlib.Omega.{arith}
 use mathlib.Core.Path.{_≡_, refl, sym, ap, _∙_}
 use mathlib.Core.Logic.{_⊎_, inl, inr, _↔_, Iff·trans}
 use mathlib.Core.Bool.{Bool, true, false, cond, not, _&&_, false≢true}
 use mathlib.Core.List.{List, [], _∷_}
 use lib.Dec.{eqb, ltb, leb}
-use lib.ListN.{length, getD, drop}
+use lib.ListN.{length, drop}
 use lib.Seq.{sets}
 use borrow.Author.Tests.{ltb-true, leb-true, eqb-true, eqb-false, ne-eqb, not-true}
 use Rattle.base.specs.Lists.{all, flag, firstFailing}
 use Rattle.base.proofs.Facts.{both, at-most, equal, all-facts}
 use Rattle.base.proofs.Lists.{and-left, and-right}
 use Rattle.meaning.specs.declared.Form.the-variants.{File}
-use Rattle.meaning.specs.Sizes.{maxValue, byteValues}
+use Rattle.meaning.specs.Sizes.{maxValue}
 use Rattle.meaning.specs.Tree.{Part}
 use Rattle.meaning.specs.Program.{variables, clocks, programTests, programRefusal, Within, fileOf}
 use Rattle.meaning.specs.Table.{compiled, compileTests, compileRefusal, compiledInto, fileIn, isTable, decompileTests, decompileRefusal, decompiledInto}
@@ -25,10 +25,12 @@ use Rattle.meaning.proofs.Refusals.{compile-first, compile-accepts, goal-bytes-
 use Rattle.agreement.specs.Calls.{tableIn}
 use Rattle.agreement.proofs.Agreement.{failing-passes, runs-alike}
 use Rattle.agreement.proofs.Operations.{offer-below, settle-below, phase-settled, not-refused, read-table, operations-agree, promises-kept}
+use Rattle.sentences.specs.Fields.{Bytes}
 use Rattle.sentences.proofs.AllowedRecords.{exactly-allowed}
 use Rattle.sentences.proofs.OneTable.{reading-lays-down}
 use Rattle.sentences.proofs.RoundTrip.{inverses}
 use Rattle.sentences.proofs.Stepping.{beginning-steps, offer-steps, settling-steps}
+use Rattle.sentences.proofs.Only.{beginning-only, offer-only, settling-only}
 use Rattle.demands.specs.Demands.{passes, RefusedBy, Answers, NoFile, SettlingStepped, Demand1, Demand2, Demand3}
 
 -- Demand 1. Each number of a list is a refusal's: not 0, and below those of the other answers
@@ -192,7 +194,7 @@ same-phase true false e = absurd (omega arith)
 same-phase false true e = absurd (omega arith)
 same-phase false false e = refl
 
-settling-stepped : (t r est : List ℕ) (answer : ℕ) → settleRefusal t r est ≡ 0 → ((i : ℕ) → getD r i 0 < byteValues) → answer ≡ answered + flag (rootEnded (settledMarks t r est))
+settling-stepped : (t r est : List ℕ) (answer : ℕ) → settleRefusal t r est ≡ 0 → Bytes r → answer ≡ answered + flag (rootEnded (settledMarks t r est))
     → SettlingStepped t r est answer (settledInto t r est)
 settling-stepped t r est answer z bytes a =
     let s = settling-steps t r est z bytes in
@@ -226,6 +228,9 @@ demand-2 =
           λ t r est answer r' s a bytes.
           let z = not-refused (settleRefusal t r est) answer (settling-refused t r est answer (s .answer-is)) (settle-below t r est) a in
           rw (s .record-is) (settling-stepped t r est answer z bytes (settling-answered t r est answer (s .answer-is) z));
+      begin-only = beginning-only;
+      offer-only = offer-only;
+      settle-only = λ t r est a b x y h. settling-only t r est a b h x y;
     }
 
 -- Demand 3

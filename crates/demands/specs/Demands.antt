@@ -10,10 +10,10 @@ use lib.ListN.{length, getD}
 use lib.Seq.{sets}
 use Rattle.base.specs.Lists.{all, bytesAt}
 use Rattle.meaning.specs.declared.Form.the-variants.{File}
-use Rattle.meaning.specs.Sizes.{maxValue, byteValues, timeLimit}
+use Rattle.meaning.specs.Sizes.{maxValue, timeLimit}
 use Rattle.meaning.specs.Tree.{Part}
 use Rattle.meaning.specs.Program.{variables, clocks, programTests, programRefusal, Within, fileOf}
-use Rattle.meaning.specs.Table.{compiled, compileTests, fileIn, decompileTests}
+use Rattle.meaning.specs.Table.{compiled, compileTests, fileIn, isTable, decompileTests}
 use Rattle.meaning.specs.Record.{recordAllowed}
 use Rattle.meaning.specs.Cycle.{estimateAllowed, beginTests, freshRecord, Names, offerTests, offeredGoals, offeredRecord, settleTests, settledMarks, settledRecord, rootEnded}
 use Rattle.meaning.specs.Answers.{answered, notATable}
@@ -21,6 +21,7 @@ use Rattle.meaning.specs.Operations.{Compiled, Decompiled, Begun, Offered, Sett
 use Rattle.agreement.specs.Runs.{Call, Timed, RunsAlike}
 use Rattle.agreement.specs.Calls.{tableIn, OperationsAlike, PromisesKept}
 use Rattle.sentences.specs.Allowed.{AllowedRecord}
+use Rattle.sentences.specs.Fields.{Bytes}
 use Rattle.sentences.specs.Rows.{LaidDown}
 use Rattle.sentences.specs.RoundTrip.{Gives, Inverses}
 use Rattle.sentences.specs.Stepping.{BeginningSteps, OfferSteps, SettlingSteps}
@@ -122,7 +123,12 @@ pub record Demand2 : Type 0 where
   pub offer-steps : (t r : List ℕ) (time : ℕ) (goals : List ℕ) (answer : ℕ) (r' goals' : List ℕ) → Offered t r time goals answer r' goals'
       → answered ≤ answer → time < timeLimit → OfferStepped t r time goals answer r' goals'
   pub settle-steps : (t r est : List ℕ) (answer : ℕ) (r' : List ℕ) → Settled t r est answer r'
-      → answered ≤ answer → ((i : ℕ) → getD r i 0 < byteValues) → SettlingStepped t r est answer r'
+      → answered ≤ answer → Bytes r → SettlingStepped t r est answer r'
+  -- and the stepping leaves no byte open
+  pub begin-only : (t est r a b : List ℕ) → BeginningSteps t est r a → BeginningSteps t est r b → Bytes a → Bytes b → a ≡ b
+  pub offer-only : (t r : List ℕ) (time : ℕ) (goals a ga b gb : List ℕ) → OfferSteps t r time goals a ga → OfferSteps t r time goals b gb
+      → isTable t ≡ true → Bytes a → Bytes b → (a ≡ b) × (ga ≡ gb)
+  pub settle-only : (t r est a b : List ℕ) → SettlingSteps t r est a → SettlingSteps t r est b → isTable t ≡ true → Bytes a → Bytes b → a ≡ b
 
 -- Demand 3. "Run one program twice from the same first estimate, once stepped by its table and once by unfolding its tree part by part with no
 -- table, and the two are alike": for every program file that compiling accepts, every first estimate, all buffers and every list of calls, whose
