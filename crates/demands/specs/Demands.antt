@@ -28,6 +28,7 @@ use Rattle.sentences.specs.Stepping.{BeginningSteps, OfferSteps, SettlingSteps}
 
 -- Demand 1. "If a file, table, run record, estimate or clock reading is not one that document 01 allows, a buffer is too short, or a call comes
 -- out of turn, the call gives that document's refusal and changes no lent byte. Every other call gives its result."
+
 -- A list of tests has each refusal's number with the test that must pass, in document 01's order
 abbrev pub passes : ℕ × Bool → Bool
 passes test = test .1
@@ -91,7 +92,8 @@ pub record Demand1 : Type 0 where
       → Answers (settleTests t r est) answer (r' ≡ r) ((answer ≡ cond (rootEnded (settledMarks t r est)) (answered + 1) answered) × (r' ≡ settledRecord t r est))
 
 -- Demand 2. "Reading a program gives the table that document 01 lays down, the table gives that file back, and a table that no file gives is refused.
--- Each cycle over a table offers goals, starts clocks and ends parts as the stepping procedure of Ingham and Williams does", as document 01 reads it
+-- Each cycle over a table offers goals, starts clocks and ends parts as the stepping procedure of Ingham and Williams does", with the readings in document 01.
+
 -- no program file gives these bytes for its table
 abbrev pub NoFile : List ℕ → Type 0
 NoFile t = (f : List ℕ) → Gives f t → ⊥
