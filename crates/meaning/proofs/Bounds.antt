@@ -9,6 +9,7 @@ use Rattle.meaning.proofs.Computed.{_gets_, Holds, file, read}
 abbrev blank : ℕ → ℕ
 blank kind = read (1 ∷ 1 ∷ 0 ∷ kind ∷ 0 ∷ 0 ∷ 0 ∷ 0 ∷ [])
 
+-- "Kind": 1 to 8
 pub kind-bytes : Holds
     (blank 0 gets 4
     ∷ blank 1 gets 0  -- GOAL 0=0
@@ -29,10 +30,10 @@ kind-bytes = refl
 abbrev alone : ℕ → ℕ → ℕ → ℕ → ℕ → ℕ
 alone kind b0 b1 b2 b3 = read (1 ∷ 3 ∷ 2 ∷ kind ∷ b0 ∷ b1 ∷ b2 ∷ b3 ∷ [])
 
--- GOAL: "b0 = 0, b1 variable, value 0 to 250"
 abbrev goal : ℕ → ℕ → ℕ → ℕ → ℕ
 goal b0 b1 b2 b3 = alone 1 b0 b1 b2 b3
 
+-- GOAL: "b0 = 0, b1 variable, value 0 to 250"
 pub goal-operands : Holds
     (goal 0 0 0 0 gets 0
     ∷ goal 0 2 250 0 gets 0
@@ -44,10 +45,10 @@ pub goal-operands : Holds
 unfolding read
 goal-operands = refl
 
--- START: "b1 clock, others 0"
 abbrev start : ℕ → ℕ → ℕ → ℕ → ℕ
 start b0 b1 b2 b3 = alone 2 b0 b1 b2 b3
 
+-- START: "b1 clock, others 0"
 pub start-operands : Holds
     (start 0 0 0 0 gets 0
     ∷ start 0 1 0 0 gets 0
@@ -59,8 +60,7 @@ pub start-operands : Holds
 unfolding read
 start-operands = refl
 
--- WAIT, MAINTAIN and CHOICE: "condition"; b0 is 1 to 4, "Variables are below V, clocks below K", "a value for tests 1 and 2 is at most 250, for
--- tests 3 and 4 any"
+-- the rows of a kind with a condition, and what it gets where that is allowed
 abbrev conditionRows : ℕ → ℕ → List (ℕ × ℕ)
 conditionRows kind passed =
     alone kind 0 0 0 0 gets 5
@@ -84,11 +84,12 @@ conditionRows kind passed =
     ∷ alone kind 255 0 0 0 gets 5
     ∷ []
 
+-- WAIT, MAINTAIN and CHOICE: "condition"; b0 is 1 to 4, "Variables are below V, clocks below K", "a value for tests 1 and 2 is at most 250, for
+-- tests 3 and 4 any"
 pub condition-operands : Holds (conditionRows 3 0 ++ (conditionRows 6 6 ++ conditionRows 7 6))
 unfolding read
 condition-operands = refl
 
--- SEQ and PAR: "b0, at least 1", "others 0"; a count of 255 is allowed, though no file has so many parts
 abbrev countRows : ℕ → List (ℕ × ℕ)
 countRows kind =
     alone kind 0 0 0 0 gets 5
@@ -99,14 +100,15 @@ countRows kind =
     ∷ alone kind 1 0 0 1 gets 5
     ∷ []
 
+-- SEQ and PAR: "b0, at least 1", "others 0"; a count of 255 is allowed, though no file has so many parts
 pub count-operands : Holds (countRows 4 ++ countRows 5)
 unfolding read
 count-operands = refl
 
--- REPEAT: "all 0"
 abbrev repeat : ℕ → ℕ → ℕ → ℕ → ℕ
 repeat b0 b1 b2 b3 = alone 8 b0 b1 b2 b3
 
+-- REPEAT: "all 0"
 pub repeat-operands : Holds
     (repeat 0 0 0 0 gets 6
     ∷ repeat 1 0 0 0 gets 5
@@ -129,6 +131,7 @@ above kind b0 n = read (file ((kind, b0) ∷ goals n))
 pub child-counts : Holds
     (above 1 0 0 gets 0 ∷ above 1 0 1 gets 6  -- GOAL
     ∷ above 3 1 0 gets 0 ∷ above 3 1 1 gets 6  -- WAIT
+    ∷ read (2 ∷ 1 ∷ 1 ∷ 2 ∷ 1 ∷ 0 ∷ 0 ∷ 0 ∷ 0 ∷ 0 ∷ 0 ∷ 0 ∷ 0 ∷ []) gets 6  -- START, and a GOAL after it
     ∷ above 4 3 2 gets 6 ∷ above 4 3 3 gets 0 ∷ above 4 3 4 gets 6  -- SEQ
     ∷ above 5 3 2 gets 6 ∷ above 5 3 3 gets 0 ∷ above 5 3 4 gets 6  -- PAR
     ∷ above 6 1 0 gets 6 ∷ above 6 1 1 gets 0 ∷ above 6 1 2 gets 6  -- MAINTAIN

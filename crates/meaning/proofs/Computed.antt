@@ -19,6 +19,7 @@ infix 70 _gets_
 abbrev pub _gets_ : {A : Type 0} → A → A → A × A
 x gets y = (x, y)
 
+-- a table of rows holds where each comes to what it says
 abbrev pub Holds : {A : Type 0} → List (A × A) → Type 0
 Holds rows = map (λ row. row .0) rows ≡ map (λ row. row .1) rows
 
@@ -26,6 +27,10 @@ Holds rows = map (λ row. row .0) rows ≡ map (λ row. row .1) rows
 -- that variable 0 equals 0; as a count, that there is one child
 abbrev pub file : List (ℕ × ℕ) → List ℕ
 file parts = length parts ∷ 1 ∷ 0 ∷ (map (λ part. part .0) parts ++ flat (λ part. part .1 ∷ 0 ∷ 0 ∷ 0 ∷ []) parts)
+
+-- The table of GOAL 0=1, for one variable and no clock
+abbrev pub goalTable : List ℕ
+goalTable = 0x01 ∷ 0x01 ∷ 0x00 ∷ 0x01 ∷ 0x01 ∷ 0xFF ∷ 0xFF ∷ 0x00 ∷ 0x00 ∷ 0x01 ∷ 0x00 ∷ []
 
 -- The refusal of a file and of each call, 0 where there is none. To unfold one of these is to unfold all that its answer, and the bytes that
 -- the call leaves, are computed with

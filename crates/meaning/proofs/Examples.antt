@@ -11,22 +11,18 @@ use Rattle.meaning.specs.declared.SettleAnswer.the-variants.{Running, Fi
 use Rattle.meaning.specs.Answers.{refusalNumber, answerNumber, offerNumber, settleNumber}
 use Rattle.meaning.specs.Table.{compiled}
 use Rattle.meaning.specs.Cycle.{begunInto, offeredInto, settledInto}
-use Rattle.meaning.proofs.Computed.{_gets_, Holds, file, compile, decompile, begin, offer, settle}
+use Rattle.meaning.proofs.Computed.{_gets_, Holds, file, goalTable, compile, decompile, begin, offer, settle}
 
 -- n REPEATs above a GOAL
 abbrev repeats : ℕ → List ℕ
 repeats n = file (replicate n (8, 0) ++ ((1, 0) ∷ []))
 
--- the table of GOAL 0=1, for one variable and no clock
-abbrev table : List ℕ
-table = 0x01 ∷ 0x01 ∷ 0x00 ∷ 0x01 ∷ 0x01 ∷ 0xFF ∷ 0xFF ∷ 0x00 ∷ 0x00 ∷ 0x01 ∷ 0x00 ∷ []
-
--- its record after a beginning, and after a cycle at 10 that is settled with an estimate
+-- the record of GOAL 0=1 after a beginning, and after a cycle at 10 that is settled with an estimate
 abbrev fresh : List ℕ
-fresh = begunInto table (0 ∷ []) (replicate 317 0)
+fresh = begunInto goalTable (0 ∷ []) (replicate 317 0)
 
 abbrev cycled : ℕ → List ℕ
-cycled est = settledInto table (offeredInto table fresh 10 1) (est ∷ [])
+cycled est = settledInto goalTable (offeredInto goalTable fresh 10 1) (est ∷ [])
 
 -- refusals 1 to 14, with what is accepted beside 7; of 15 the paper says "none known"
 pub examples : Holds
@@ -40,12 +36,12 @@ pub examples : Holds
     ∷ compile (repeats 15) 2000 gets 0
     ∷ compile (repeats 0) 10 gets 8
     ∷ decompile (0x01 ∷ 0x01 ∷ 0x00 ∷ []) 2000 gets 9
-    ∷ offer table (set fresh 0 7) 0 1 gets 10  -- "phase byte 7"
-    ∷ offer table (take 316 fresh) 0 1 gets 10  -- "or under 317 bytes"
-    ∷ settle table fresh (0 ∷ []) gets 11  -- "settling a fresh record"
-    ∷ offer table (cycled 0) 9 1 gets 12  -- "offer 9 after 10"
-    ∷ begin table (0xFB ∷ []) 317 gets 13  -- "`FB` for V = 1"
-    ∷ offer table (cycled 1) 10 1 gets 14  -- "offer in phase 2"
+    ∷ offer goalTable (set fresh 0 7) 0 1 gets 10  -- "phase byte 7"
+    ∷ offer goalTable (take 316 fresh) 0 1 gets 10  -- "or under 317 bytes"
+    ∷ settle goalTable fresh (0 ∷ []) gets 11  -- "settling a fresh record"
+    ∷ offer goalTable (cycled 0) 9 1 gets 12  -- "offer 9 after 10"
+    ∷ begin goalTable (0xFB ∷ []) 317 gets 13  -- "`FB` for V = 1"
+    ∷ offer goalTable (cycled 1) 10 1 gets 14  -- "offer in phase 2"
     ∷ [])
 unfolding settle
 examples = refl

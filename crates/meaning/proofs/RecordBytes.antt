@@ -13,8 +13,8 @@ use Rattle.meaning.specs.Cycle.{freshRecord, begunInto, offeredInto, goa
 use Rattle.meaning.proofs.Computed.{_gets_, Holds, file, decompile, allowed, offer, settle}
 
 -- PAR(START 1, GOAL 0=250), for 2 variables and 2 clocks
-abbrev started : List ℕ
-started =
+abbrev pairFile : List ℕ
+pairFile =
     3 ∷ 2 ∷ 2
     ∷ 5 ∷ 2 ∷ 1
     ∷ 2 ∷ 0 ∷ 0 ∷ 0
@@ -22,8 +22,8 @@ started =
     ∷ 0 ∷ 0 ∷ 250 ∷ 0
     ∷ []
 
-abbrev table : List ℕ
-table =
+abbrev pairTable : List ℕ
+pairTable =
     3 ∷ 2 ∷ 2
     ∷ 5 ∷ 3 ∷ 255 ∷ 255 ∷ 2 ∷ 0 ∷ 0 ∷ 0
     ∷ 2 ∷ 2 ∷ 0 ∷ 255 ∷ 0 ∷ 1 ∷ 0 ∷ 0
@@ -32,8 +32,8 @@ table =
 
 -- PAR(SEQ(GOAL, GOAL), MAINTAIN(GOAL), CHOICE(GOAL, GOAL), REPEAT(SEQ(GOAL))), for one variable and no clock: each GOAL is 0=0, and each
 -- condition that variable 0 equals 0
-abbrev every : List ℕ
-every = file ((5, 4) ∷ (4, 2) ∷ (1, 0) ∷ (1, 0) ∷ (6, 1) ∷ (1, 0) ∷ (7, 1) ∷ (1, 0) ∷ (1, 0) ∷ (8, 0) ∷ (4, 1) ∷ (1, 0) ∷ [])
+abbrev everyFile : List ℕ
+everyFile = file ((5, 4) ∷ (4, 2) ∷ (1, 0) ∷ (1, 0) ∷ (6, 1) ∷ (1, 0) ∷ (7, 1) ∷ (1, 0) ∷ (1, 0) ∷ (8, 0) ∷ (4, 1) ∷ (1, 0) ∷ [])
 
 abbrev everyTable : List ℕ
 everyTable =
@@ -52,7 +52,7 @@ everyTable =
     ∷ 1 ∷ 12 ∷ 10 ∷ 255 ∷ 0 ∷ 0 ∷ 0 ∷ 0
     ∷ []
 
--- n bytes that a call is to write, and two further ones
+-- a buffer: n bytes that a call is to write, and two further ones
 abbrev further : List ℕ
 further = 7 ∷ 8 ∷ []
 
@@ -61,16 +61,16 @@ buffer n = replicate n 9 ++ further
 
 -- "an output buffer's further bytes are untouched"
 pub program-buffers : Holds
-    (compiledInto started (buffer 27) gets (table ++ further)
-    ∷ compiledInto every (buffer 99) gets (everyTable ++ further)
-    ∷ decompiledInto table (buffer 18) gets (started ++ further)
-    ∷ decompiledInto everyTable (buffer 63) gets (every ++ further)
+    (compiledInto pairFile (buffer 27) gets (pairTable ++ further)
+    ∷ compiledInto everyFile (buffer 99) gets (everyTable ++ further)
+    ∷ decompiledInto pairTable (buffer 18) gets (pairFile ++ further)
+    ∷ decompiledInto everyTable (buffer 63) gets (everyFile ++ further)
     ∷ [])
 unfolding decompile
 program-buffers = refl
 
--- "Phase; last time, 4; estimate, 32; clock started, 16; clock start times, 16 times 4; marks, 200": a run of it that has begun, that is offered at
--- a time whose four bytes differ, and that is settled, which starts clock 1 and leaves the GOAL at work; and two further bytes
+-- "Phase; last time, 4; estimate, 32; clock started, 16; clock start times, 16 times 4; marks, 200": the record of a run of the first program that
+-- has begun; after an offer at a time whose four bytes differ; and after a settling, which starts clock 1 and leaves the GOAL at work
 abbrev begun : List ℕ
 begun =
     0
@@ -101,10 +101,11 @@ settled =
     ++ (1 ∷ 0 ∷ 1 ∷ replicate 197 0)
     ++ further
 
+-- "A longer buffer's further bytes are untouched"
 pub record-bytes : Holds
-    (begunInto table (3 ∷ 4 ∷ []) (buffer 317) gets begun
-    ∷ offeredInto table begun 0x04030201 2 gets offered
-    ∷ settledInto table offered (5 ∷ 250 ∷ []) gets settled
+    (begunInto pairTable (3 ∷ 4 ∷ []) (buffer 317) gets begun
+    ∷ offeredInto pairTable begun 0x04030201 2 gets offered
+    ∷ settledInto pairTable offered (5 ∷ 250 ∷ []) gets settled
     ∷ [])
 unfolding settle
 record-bytes = refl
@@ -128,21 +129,21 @@ merging =
 
 -- "each is 255 where no marked GOAL names that variable, the value where all agree, 254 where two differ"; "Further goal bytes are untouched"
 pub goal-buffers : Holds
-    (goalsInto table begun 0 (buffer 2) gets (250 ∷ 255 ∷ further)
+    (goalsInto pairTable begun 0 (buffer 2) gets (250 ∷ 255 ∷ further)
     ∷ goalsInto (compiled File merging) (freshRecord (compiled File merging) (replicate 5 0)) 0 (buffer 5) gets (254 ∷ 7 ∷ 254 ∷ 0 ∷ 255 ∷ further)
     ∷ [])
 unfolding offer
 goal-buffers = refl
 
--- Whether a record is allowed. Of the first program, at the last time 10: by its estimate, by its clocks' flags and starts, by its phase and marks
+-- Whether a record of the first program is allowed, at the last time 10: by its estimate, by its clocks' flags and starts, by its phase and marks
 abbrev estimated : List ℕ → Bool
-estimated est = allowed table (recordBytes 0 10 est (0 ∷ 0 ∷ []) (0 ∷ 0 ∷ []) (1 ∷ 1 ∷ 1 ∷ []))
+estimated est = allowed pairTable (recordBytes 0 10 est (0 ∷ 0 ∷ []) (0 ∷ 0 ∷ []) (1 ∷ 1 ∷ 1 ∷ []))
 
 abbrev clocked : List ℕ → List ℕ → Bool
-clocked flags starts = allowed table (recordBytes 0 10 (0 ∷ 0 ∷ []) flags starts (1 ∷ 1 ∷ 1 ∷ []))
+clocked flags starts = allowed pairTable (recordBytes 0 10 (0 ∷ 0 ∷ []) flags starts (1 ∷ 1 ∷ 1 ∷ []))
 
 abbrev phased : ℕ → List ℕ → Bool
-phased phase marks = allowed table (recordBytes phase 10 (0 ∷ 0 ∷ []) (0 ∷ 0 ∷ []) (0 ∷ 0 ∷ []) marks)
+phased phase marks = allowed pairTable (recordBytes phase 10 (0 ∷ 0 ∷ []) (0 ∷ 0 ∷ []) (0 ∷ 0 ∷ []) marks)
 
 -- "phase, started flags and marks hold only the values just named; entries beyond V, K and N are 0; estimate values are at most 250; an unstarted
 -- clock's time is 0 and a started one's not after the last time"; "or under 317 bytes"
@@ -169,15 +170,15 @@ pub allowed-fields : Holds
     ∷ phased 0 (1 ∷ 1 ∷ 2 ∷ []) gets false
     ∷ phased 0 (1 ∷ 1 ∷ 1 ∷ 1 ∷ []) gets false
     ∷ phased 0 (1 ∷ 1 ∷ 1 ∷ replicate 196 0 ++ (1 ∷ [])) gets false
-    ∷ allowed table begun gets true
-    ∷ allowed table (take 317 begun) gets true
-    ∷ allowed table (take 316 begun) gets false
+    ∷ allowed pairTable begun gets true
+    ∷ allowed pairTable (take 317 begun) gets true
+    ∷ allowed pairTable (take 316 begun) gets false
     ∷ [])
 unfolding allowed
 allowed-fields = refl
 
--- Of the second program: the root's mark and those of the parts inside it, as they are when it begins, and with other marks for one child and for
--- what is inside that
+-- Whether a record of the second program is allowed: by the root's mark and those of the parts inside it; as these are when it begins, and with
+-- other marks for one child and for what is inside that
 abbrev marked : ℕ → ℕ → List ℕ → Bool
 marked phase root inside = allowed everyTable (recordBytes phase 0 (0 ∷ []) [] [] (root ∷ inside))
 
