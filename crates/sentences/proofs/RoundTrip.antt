@@ -126,7 +126,7 @@ back-table t back answer back' d z out answer' out' c l =
 pub inverses : Inverses
 inverses =
     record {
-      table-given = λ t. (table-gives t, given-table (fileIn t) t);
+      table-is-given = λ t. (table-gives t, given-table (fileIn t) t);
       one-file = λ f t g. sym (given-file f t g);
       none-gives = no-file;
       refused = λ t room. Iff·trans (nine t room) (no-file t);

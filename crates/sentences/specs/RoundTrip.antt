@@ -58,7 +58,7 @@ TablesComeBack =
 -- Reading, giving back and the table check are one another's inverses
 pub record Inverses : Type 0 where
   -- a table is what the file in it gives, and no other file gives it
-  pub table-given : (t : List ℕ) → (isTable t ≡ true) ↔ Gives (fileIn t) t
+  pub table-is-given : (t : List ℕ) → (isTable t ≡ true) ↔ Gives (fileIn t) t
   pub one-file : (f t : List ℕ) → Gives f t → f ≡ fileIn t
   -- "bytes not the table of any file": exactly these are refused by 9
   pub none-gives : (t : List ℕ) → (isTable t ≡ false) ↔ ((f : List ℕ) → Gives f t → ⊥)
