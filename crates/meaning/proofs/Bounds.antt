@@ -134,8 +134,8 @@ pub child-counts : Holds
     ∷ read (2 ∷ 1 ∷ 1 ∷ 2 ∷ 1 ∷ 0 ∷ 0 ∷ 0 ∷ 0 ∷ 0 ∷ 0 ∷ 0 ∷ 0 ∷ []) gets 6  -- START, and a GOAL after it
     ∷ above 4 3 2 gets 6 ∷ above 4 3 3 gets 0 ∷ above 4 3 4 gets 6  -- SEQ
     ∷ above 5 3 2 gets 6 ∷ above 5 3 3 gets 0 ∷ above 5 3 4 gets 6  -- PAR
-    ∷ above 6 1 0 gets 6 ∷ above 6 1 1 gets 0 ∷ above 6 1 2 gets 6  -- MAINTAIN
-    ∷ above 7 1 1 gets 6 ∷ above 7 1 2 gets 0 ∷ above 7 1 3 gets 6  -- CHOICE
+    ∷ above 6 2 0 gets 6 ∷ above 6 2 1 gets 0 ∷ above 6 2 2 gets 6  -- MAINTAIN
+    ∷ above 7 2 1 gets 6 ∷ above 7 2 2 gets 0 ∷ above 7 2 3 gets 6  -- CHOICE
     ∷ above 8 0 0 gets 6 ∷ above 8 0 1 gets 0 ∷ above 8 0 2 gets 6  -- REPEAT
     ∷ [])
 unfolding read
