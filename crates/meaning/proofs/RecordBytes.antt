@@ -59,12 +59,14 @@ further = 7 ∷ 8 ∷ []
 abbrev buffer : ℕ → List ℕ
 buffer n = replicate n 9 ++ further
 
--- "an output buffer's further bytes are untouched"
+-- "an output buffer's further bytes are untouched"; a refused call changes nothing
 pub program-buffers : Holds
     (compiledInto pairFile (buffer 27) gets (pairTable ++ further)
     ∷ compiledInto everyFile (buffer 99) gets (everyTable ++ further)
     ∷ decompiledInto pairTable (buffer 18) gets (pairFile ++ further)
     ∷ decompiledInto everyTable (buffer 63) gets (everyFile ++ further)
+    ∷ compiledInto pairFile (replicate 26 9) gets replicate 26 9  -- 8
+    ∷ decompiledInto pairTable (replicate 17 9) gets replicate 17 9  -- 8
     ∷ [])
 unfolding decompile
 program-buffers = refl
@@ -101,11 +103,15 @@ settled =
     ++ (1 ∷ 0 ∷ 1 ∷ replicate 197 0)
     ++ further
 
--- "A longer buffer's further bytes are untouched"
+-- "A longer buffer's further bytes are untouched"; a refused call changes nothing
 pub record-bytes : Holds
     (begunInto pairTable (3 ∷ 4 ∷ []) (buffer 317) gets begun
     ∷ offeredInto pairTable begun 0x04030201 2 gets offered
     ∷ settledInto pairTable offered (5 ∷ 250 ∷ []) gets settled
+    ∷ begunInto pairTable (3 ∷ 251 ∷ []) (buffer 317) gets buffer 317  -- 13
+    ∷ offeredInto pairTable offered 0x04030201 2 gets offered  -- 11
+    ∷ offeredInto pairTable begun 0x04030201 1 gets begun  -- 8
+    ∷ settledInto pairTable begun (5 ∷ 250 ∷ []) gets begun  -- 11
     ∷ [])
 unfolding settle
 record-bytes = refl
@@ -127,10 +133,12 @@ merging =
     ∷ 0 ∷ 3 ∷ 0 ∷ 0
     ∷ []
 
--- "each is 255 where no marked GOAL names that variable, the value where all agree, 254 where two differ"; "Further goal bytes are untouched"
+-- "each is 255 where no marked GOAL names that variable, the value where all agree, 254 where two differ"; "Further goal bytes are
+-- untouched"; a refused call changes nothing
 pub goal-buffers : Holds
     (goalsInto pairTable begun 0 (buffer 2) gets (250 ∷ 255 ∷ further)
     ∷ goalsInto (compiled File merging) (freshRecord (compiled File merging) (replicate 5 0)) 0 (buffer 5) gets (254 ∷ 7 ∷ 254 ∷ 0 ∷ 255 ∷ further)
+    ∷ goalsInto pairTable begun 0 (9 ∷ []) gets (9 ∷ [])  -- 8
     ∷ [])
 unfolding offer
 goal-buffers = refl
