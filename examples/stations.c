@@ -31,7 +31,8 @@ enum what {
     CYCLES,
     IN_TABLE,
     IN_RECORD,
-    LEND
+    LEND,
+    LONGEST
 };
 
 /* Bytes are written in hexadecimal, marks as a digit for each part. */
@@ -69,6 +70,9 @@ struct step {
 #define TABLE_BYTE(place, byte) {IN_TABLE, "", "", place, byte, 0}
 #define RECORD_BYTE(place, byte) {IN_RECORD, "", "", place, byte, 0}
 #define RECORD_LENT(length) {LEND, "", "", 0, length, 0}
+
+/* The longest program, whose texts are written where it runs. */
+#define LONGEST_PROGRAM {LONGEST, "", "", 0, 0, 0}
 
 /* A byte that no record may have where another stands: neither call takes the record (10). */
 #define NOT_ALLOWED(place, wrong, right)                                                         \
@@ -311,6 +315,12 @@ static const struct step steps[] = {
     OFFERED(14, "FF", "101"),
     FINISHED("00", "000"),
     FINISHED_IN(2),
+    BEGUN("00", "110"),
+    OFFERED(0, "FF", "110"),
+    STARTS(0, 0),
+    RUNNING("00", "101"),
+    OFFERED(4294967295u, "FF", "101"),
+    RUNNING("00", "101"),
 
     STATION("values of two bytes"), /* SEQ(START 0, WAIT clock 0 at least 300) */
     COMPILED("03 01 01  04 02 03  02 00 00 00  00 00 00 00  03 00 2C 01",
@@ -325,6 +335,12 @@ static const struct step steps[] = {
     OFFERED(1299, "FF", "101"),
     RUNNING("00", "101"),
     OFFERED(1300, "FF", "101"),
+    FINISHED("00", "000"),
+    BEGUN("00", "110"),
+    OFFERED(0, "FF", "110"),
+    STARTS(0, 0),
+    RUNNING("00", "101"),
+    OFFERED(4294967295u, "FF", "101"), /* the clock reads as much */
     FINISHED("00", "000"),
     /* SEQ(START 0, MAINTAIN(clock 0 below 65535, GOAL 0=1)): violated from 65535 on, for ever */
     COMPILED("04 01 01  04 02 06 01  02 00 00 00  00 00 00 00  04 00 FF FF  00 00 01 00",
@@ -392,6 +408,20 @@ static const struct step steps[] = {
     FINISHED("00", "00"),
     FINISHED_IN(1),
 
+    STATION("a START that is newly marked starts no clock"), /* SEQ(GOAL 0=1, START 0) */
+    COMPILED("03 01 01  04 01 02  02 00 00 00  00 00 01 00  00 00 00 00",
+             "03 01 01"
+             "04 03 FF FF 02 00 00 00"
+             "01 02 00 02 00 00 01 00"
+             "02 03 00 FF 00 00 00 00"),
+    BEGUN("00", "110"),
+    OFFERED(3, "01", "110"),
+    RUNNING("01", "101"),
+    OFFERED(8, "FF", "101"),
+    STARTS(0, 8),
+    FINISHED("01", "000"),
+    FINISHED_IN(2),
+
     STATION("a doubtful cycle"), /* docs/DEFINITIONS.md goes through it */
     COMPILED("07 02 01  04 06 04 02 03 01 01"
              "02 00 00 00  01 01 00 00  03 00 00 00  00 00 00 00"
@@ -448,6 +478,10 @@ static const struct step steps[] = {
     RUNNING("01", "10111000"),
     FINISHED_IN(0),
 
+    STATION("the longest program"), /* a SEQ of 199 GOALs, a cycle for each */
+    LONGEST_PROGRAM,
+    FINISHED_IN(199),
+
     STATION("refusals of files"), /* 1 to 7, each over all parts, then 8 */
     FILE_REFUSED("", 0, 1),
     FILE_REFUSED("00 01", 0, 1),
@@ -487,7 +521,9 @@ static const struct step steps[] = {
     FILE_REFUSED("02 01 00  08 01  00 00 01 00  00 00 00 00", 0, 5),
     FILE_REFUSED("02 01 00  08 01  00 00 00 01  00 00 00 00", 0, 5),
     FILE_REFUSED("01 01 00 08 00 00 00 00", 0, 6),
+    FILE_REFUSED("01 01 00  04  02 00 00 00", 0, 6), /* two children missing */
     FILE_REFUSED("02 01 00  01 01  00 00 00 00  00 00 00 00", 0, 6), /* two trees */
+    FILE_REFUSED("02 01 00  01 08  00 00 00 00  00 00 00 00", 0, 6), /* a child in its place before */
     FILE_REFUSED("03 01 00  04 01 01  01 00 00 00  00 00 00 00  00 00 00 00", 0, 6),
     FILE_REFUSED("02 01 00  07 01  01 00 00 00  00 00 00 00", 0, 6), /* one child for a CHOICE */
     FILE_REFUSED("12 01 00" KINDS_15 "08 08 08" OPERANDS_15 OPERANDS_3, 0, 6), /* 18 levels */
@@ -507,6 +543,36 @@ static const struct step steps[] = {
     TABLE_REFUSED("02 01 01  08 02 FF FF 00 00 00 00  01 01 00 01 00 00 01 00", 0, 9),
     TABLE_REFUSED("02 01 01  08 02 FF FF 00 00 00 00  01 02 FF 01 00 00 01 00", 0, 9),
     TABLE_REFUSED("02 01 01  08 02 FF FF 00 00 00 00  01 02 00 FF 00 00 01 00", 0, 9),
+    /* no next: a child of a PAR, a MAINTAIN, a CHOICE, and the last of a SEQ */
+    TABLE_REFUSED("03 01 01  05 03 FF FF 02 00 00 00"
+                  "01 02 00 02 00 00 01 00  01 03 00 FF 00 00 02 00",
+                  0, 9),
+    TABLE_REFUSED("02 01 01  06 02 FF FF 01 00 00 00  01 02 00 01 00 00 01 00", 0, 9),
+    TABLE_REFUSED("03 01 01  07 03 FF FF 01 00 00 00"
+                  "01 02 00 02 00 00 01 00  01 03 00 FF 00 00 02 00",
+                  0, 9),
+    TABLE_REFUSED("02 01 01  04 02 FF FF 01 00 00 00  01 02 00 02 00 00 01 00", 0, 9),
+    TABLE_REFUSED("01 21 01  01 01 FF FF 00 00 01 00", 0, 9), /* V and K outside their ranges */
+    TABLE_REFUSED("01 01 11  01 01 FF FF 00 00 01 00", 0, 9),
+    TABLE_REFUSED("11 01 01" /* 16 REPEATs above a GOAL */
+                  "08 11 FF FF 00 00 00 00"
+                  "08 11 00 01 00 00 00 00"
+                  "08 11 01 02 00 00 00 00"
+                  "08 11 02 03 00 00 00 00"
+                  "08 11 03 04 00 00 00 00"
+                  "08 11 04 05 00 00 00 00"
+                  "08 11 05 06 00 00 00 00"
+                  "08 11 06 07 00 00 00 00"
+                  "08 11 07 08 00 00 00 00"
+                  "08 11 08 09 00 00 00 00"
+                  "08 11 09 0A 00 00 00 00"
+                  "08 11 0A 0B 00 00 00 00"
+                  "08 11 0B 0C 00 00 00 00"
+                  "08 11 0C 0D 00 00 00 00"
+                  "08 11 0D 0E 00 00 00 00"
+                  "08 11 0E 0F 00 00 00 00"
+                  "01 11 0F 10 00 00 01 00",
+                  GURVOKE_MAX_FILE, 9),
     /* Every call of a run looks at the table first. */
     COMPILED(WAITS, WAITS_TABLE),
     BEGUN("00", "110"),
@@ -539,6 +605,7 @@ static const struct step steps[] = {
     NOT_ALLOWED(MARK(1), 0, 1), /* no child of a SEQ, and two */
     NOT_ALLOWED(MARK(2), 1, 0),
     OFFERED(4, "FF", "110"),
+    NOT_ALLOWED(MARK(1), 0, 1), /* no child of a SEQ in phase 1 either */
     STARTS(0, 4),
     RUNNING("00", "101"),
     NOT_ALLOWED(GURVOKE_START_PLACE(0), 5, 4), /* a start after the last time */
@@ -563,7 +630,7 @@ static const struct step steps[] = {
     NOT_ALLOWED(MARK(6), 0, 1), /* no child of a PAR */
     RECORD_BYTE(MARK(6), 0),
     NOT_ALLOWED(MARK(2), 0, 0), /* no child of a REPEAT */
-    RECORD_BYTE(MARK(2), 0),
+    NOT_ALLOWED(GURVOKE_PHASE_PLACE, 1, 0), /* in phase 1 either */
     NOT_ALLOWED(MARK(1), 0, 0), /* no child of a MAINTAIN in phase 0, but in phase 1 */
     RECORD_BYTE(GURVOKE_PHASE_PLACE, 1),
     FINISHED("00", "0000000"),
@@ -602,6 +669,7 @@ enum { FURTHER = 5, UNTOUCHED = 0xA5 };
 
 /* The buffers that are lent to the calls, and what must stand in them. */
 struct buffers {
+    uint8_t input[GURVOKE_MAX_FILE]; /* a file or an estimate, which a call only reads */
     uint8_t file[GURVOKE_MAX_FILE + FURTHER];
     uint8_t table[GURVOKE_MAX_TABLE + FURTHER];
     uint8_t record[GURVOKE_RECORD + FURTHER];
@@ -661,7 +729,8 @@ static bool is_same(const char *what, const uint8_t *is, const uint8_t *must_be,
 
 static bool are_right(void)
 {
-    return is_same("file", lent.file, right.file, sizeof lent.file) &&
+    return is_same("input", lent.input, right.input, sizeof lent.input) &&
+           is_same("file", lent.file, right.file, sizeof lent.file) &&
            is_same("table", lent.table, right.table, sizeof lent.table) &&
            is_same("goals", lent.goals, right.goals, sizeof lent.goals) &&
            is_same("record", lent.record, right.record, sizeof lent.record);
@@ -689,22 +758,29 @@ static bool is_offer_answer(uint32_t answer)
     return is_answer(answer, GURVOKE_ANSWERED + first);
 }
 
+/* The bytes of a file or an estimate, for the call to read: how many. */
+static size_t lend_input(const char *text)
+{
+    size_t length = read_bytes(text, right.input);
+    memcpy(lent.input, right.input, length);
+    return length;
+}
+
 /* The calls. Each first says what must stand in the buffers afterwards. */
 static bool compile(const struct step *step)
 {
-    static uint8_t file[GURVOKE_MAX_FILE];
-    size_t file_len = read_bytes(step->bytes, file);
     memset(&lent, UNTOUCHED, sizeof lent);
     memset(&right, UNTOUCHED, sizeof right);
+    size_t file_len = lend_input(step->bytes);
     table_len = read_bytes(step->after, right.table);
     record_len = GURVOKE_RECORD + further;
     size_t room = step->answer == 0 ? table_len + further : step->value;
-    uint32_t answer = gurvoke_compile(file, file_len, lent.table, room);
+    uint32_t answer = gurvoke_compile(lent.input, file_len, lent.table, room);
     if (!is_answer(answer, step->answer) || !are_right())
         return false;
     if (step->answer != 0)
         return true; /* refused, as it must be: there is no table to give back */
-    memcpy(right.file, file, file_len);
+    memcpy(right.file, right.input, file_len);
     answer = gurvoke_decompile(lent.table, table_len, lent.file, file_len + further);
     return is_answer(answer, 0) && are_right();
 }
@@ -720,18 +796,17 @@ static bool decompile(const struct step *step)
 
 static bool begin(const struct step *step)
 {
-    uint8_t estimate[GURVOKE_MAX_VARIABLES];
-    size_t estimate_len = read_bytes(step->bytes, estimate);
+    size_t estimate_len = lend_input(step->bytes);
     size_t room = step->value;
     if (step->answer == 0) {
         room = record_len;
         cycles = finishing = 0;
         memset(right.record, 0, GURVOKE_RECORD);
-        memcpy(right.record + GURVOKE_ESTIMATE_PLACE, estimate, estimate_len);
+        memcpy(right.record + GURVOKE_ESTIMATE_PLACE, right.input, estimate_len);
         read_marks(step->after, right.record + GURVOKE_MARKS_PLACE);
     }
     uint32_t answer =
-        gurvoke_begin(lent.table, table_len, estimate, estimate_len, lent.record, room);
+        gurvoke_begin(lent.table, table_len, lent.input, estimate_len, lent.record, room);
     return is_answer(answer, step->answer) && are_right();
 }
 
@@ -752,20 +827,74 @@ static bool offer(const struct step *step)
 
 static bool settle(const struct step *step)
 {
-    uint8_t estimate[GURVOKE_MAX_VARIABLES];
-    size_t estimate_len = read_bytes(step->bytes, estimate);
+    size_t estimate_len = lend_input(step->bytes);
     if (step->answer >= GURVOKE_ANSWERED) {
         bool ends = step->answer == GURVOKE_FINISHED;
         right.record[GURVOKE_PHASE_PLACE] = ends ? GURVOKE_PHASE_FINISHED : GURVOKE_PHASE_WAITING;
-        memcpy(right.record + GURVOKE_ESTIMATE_PLACE, estimate, estimate_len);
+        memcpy(right.record + GURVOKE_ESTIMATE_PLACE, right.input, estimate_len);
         read_marks(step->after, right.record + GURVOKE_MARKS_PLACE);
     }
     uint32_t answer =
-        gurvoke_settle(lent.table, table_len, lent.record, record_len, estimate, estimate_len);
+        gurvoke_settle(lent.table, table_len, lent.record, record_len, lent.input, estimate_len);
     cycles += answer >= GURVOKE_ANSWERED;
     if (finishing == 0 && lent.record[GURVOKE_PHASE_PLACE] == GURVOKE_PHASE_FINISHED)
         finishing = cycles;
     return is_answer(answer, step->answer) && are_right();
+}
+
+static bool take(const struct step *step);
+
+/* The longest program: 199 GOALs that the last of 32 variables is 1, in a SEQ. The texts of its file
+ * and of its table, and of the marks where the SEQ is at part p. */
+enum { LAST_PART = GURVOKE_MAX_PARTS - 1 };
+
+#define EIGHT(byte) byte byte byte byte byte byte byte byte
+#define THIRTY_ONE(byte) EIGHT(byte) EIGHT(byte) EIGHT(byte) byte byte byte byte byte byte byte
+
+static char file_text[2 * GURVOKE_MAX_FILE + 1];
+static char table_text[2 * GURVOKE_MAX_TABLE + 1];
+static char marks_text[GURVOKE_MAX_PARTS + 1];
+
+static void write_longest(void)
+{
+    char *file = file_text + sprintf(file_text, "C8201004");
+    char *table = table_text + sprintf(table_text, "C8201004C8FFFFC7000000");
+    for (int part = 1; part <= LAST_PART; part++) {
+        unsigned end = (unsigned)part + 1;
+        file += sprintf(file, "01");
+        table += sprintf(table, "01%02X00%02X001F0100", end,
+                         part < LAST_PART ? end : (unsigned)GURVOKE_NO_PART);
+    }
+    file += sprintf(file, "C7000000");
+    for (int part = 1; part <= LAST_PART; part++)
+        file += sprintf(file, "001F0100");
+}
+
+static const char *at_part(int part)
+{
+    memset(marks_text, '0', GURVOKE_MAX_PARTS);
+    if (part <= LAST_PART)
+        marks_text[0] = marks_text[part] = '1';
+    return marks_text;
+}
+
+static bool run_longest(void)
+{
+    write_longest();
+    const struct step compiled = COMPILED(file_text, table_text);
+    const struct step begun = BEGUN(THIRTY_ONE("00") "00", at_part(1));
+    if (!take(&compiled) || !take(&begun))
+        return false;
+    for (int part = 1; part <= LAST_PART; part++) {
+        const struct step offered = OFFERED((uint32_t)part, THIRTY_ONE("FF") "01", at_part(part));
+        if (!take(&offered))
+            return false;
+        const struct step running = RUNNING(THIRTY_ONE("00") "01", at_part(part + 1));
+        const struct step finished = FINISHED(THIRTY_ONE("00") "01", at_part(part + 1));
+        if (!take(part < LAST_PART ? &running : &finished))
+            return false;
+    }
+    return true;
 }
 
 /* A step, and whether what it says is so. */
@@ -802,6 +931,8 @@ static bool take(const struct step *step)
     case LEND:
         record_len = step->value;
         return true;
+    case LONGEST:
+        return run_longest();
     default:
         return false;
     }
