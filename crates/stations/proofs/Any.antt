@@ -9,13 +9,12 @@ use lib.ListN.{replicate}
 use borrow.Author.Tests.{le-leb}
 use Rattle.meaning.specs.declared.Form.the-variants.{File}
 use Rattle.meaning.specs.Sizes.{maxValue}
-use Rattle.meaning.specs.Kinds.{kindOf, numberOf, known, arity, testOf, testAllowed, conditionAllowed, goalAllowed, startAllowed, countAllowed, emptyAllowed, operandAllowed}
-use Rattle.meaning.specs.Tree.{fold, size, depth}
-use Rattle.meaning.specs.Program.{variables, sizesAllowed, entries, preorder, entryKnown, entryAllowed, arityOf, makePart, takeChildren, trees, treeOf, programRefusal}
+use Rattle.meaning.specs.Program.{variables, treeOf, programRefusal}
 use Rattle.meaning.specs.Table.{compiled}
 use Rattle.meaning.specs.Conditions.{outcome, reached, satisfied, violated}
 use Rattle.meaning.specs.Record.{recordLength}
 use Rattle.meaning.specs.Cycle.{valuesFor, goalBytes, estimateAllowed, beginRefusal}
+use Rattle.meaning.proofs.Computed.{read}
 use Rattle.agreement.specs.Unfolding.{afresh, check, working, settle}
 use Rattle.agreement.specs.Runs.{treeNext, treeReply, treeFinishing, Timed, RunsAlike}
 use Rattle.agreement.proofs.Agreement.{runs-alike}
@@ -48,7 +47,7 @@ module _ (x : Station) (accepted : programRefusal File (x .file) ≡ 0) (allowed
 
 -- stations 2 and 3, for all
 pub any-hold : AnyHold
-unfolding treeFinishing sameReply sameReplies byTree kindOf numberOf known arity testOf testAllowed conditionAllowed goalAllowed startAllowed countAllowed emptyAllowed operandAllowed fold depth size sizesAllowed entries preorder entryKnown entryAllowed arityOf makePart takeChildren trees treeOf programRefusal outcome reached satisfied violated valuesFor goalBytes estimateAllowed afresh check working settle treeNext treeReply
+unfolding treeFinishing sameReply sameReplies byTree read outcome reached satisfied violated valuesFor goalBytes estimateAllowed afresh check working settle treeNext treeReply
 any-hold =
     record {
       any-settling = λ time e short fits. by-tree-alone (finishesWith time e) refl refl (short, tt) refl (rw (le-leb 0 time (omega arith), le-leb e maxValue fits));

@@ -10,13 +10,14 @@ use lib.ListN.{replicate}
 use Rattle.meaning.specs.declared.Form.the-variants.{File}
 use Rattle.meaning.specs.declared.Transition.the-variants.{Stays, Ends, Second}
 use Rattle.meaning.specs.declared.Outcome.the-variants.{Satisfied, Open}
-use Rattle.meaning.specs.Kinds.{GOAL, SEQ, CHOICE, REPEAT, kindOf, numberOf, known, arity, testOf, testAllowed, conditionAllowed, goalAllowed, startAllowed, countAllowed, emptyAllowed, operandAllowed}
-use Rattle.meaning.specs.Tree.{Part, fold, size, depth, goal, start, wait, seq, par, choice, repeat, one, more}
-use Rattle.meaning.specs.Program.{sizesAllowed, entries, preorder, entryKnown, entryAllowed, arityOf, makePart, takeChildren, trees, treeOf, programRefusal}
-use Rattle.meaning.specs.Table.{operandOf, nextAt, nextOf, block, tableOf, compiled, fileIn, isTable}
-use Rattle.meaning.specs.Conditions.{Situation, outcome, reached, satisfied, violated}
-use Rattle.meaning.specs.Record.{recordLength, restZero, valuesAllowed, clockAllowed, clocksAllowed, markedChildren, childrenAllowed, partsAllowed, rootAllowed, recordBytes, recordAllowed}
-use Rattle.meaning.specs.Cycle.{beginsIn, initialMarksFrom, initialMarks, checkedFrom, leavesFrom, valuesFor, goalBytes, transition, applied, settledFrom, situation, offeredGoals, estimateAllowed, freshRecord, beginRefusal, begunInto, offerRefusal, offeredInto, goalsInto, worksFrom, settleRefusal, settledInto}
+use Rattle.meaning.specs.Kinds.{GOAL, SEQ, CHOICE, REPEAT, kindOf, numberOf, testOf}
+use Rattle.meaning.specs.Tree.{Part, goal, start, wait, seq, par, choice, repeat, one, more}
+use Rattle.meaning.specs.Program.{treeOf}
+use Rattle.meaning.specs.Table.{operandOf, nextAt, compiled}
+use Rattle.meaning.specs.Conditions.{Situation, outcome, reached, satisfied}
+use Rattle.meaning.specs.Record.{recordLength}
+use Rattle.meaning.specs.Cycle.{beginsIn, initialMarksFrom, initialMarks, transition, applied, settledFrom, situation, offeredGoals, begunInto, offeredInto}
+use Rattle.meaning.proofs.Computed.{compile, settle as settleCall}
 use Rattle.agreement.specs.Unfolding.{that, both, undecided, second, afresh, settle}
 use Rattle.stations.specs.Moments.{Says, cycle, operand}
 
@@ -50,7 +51,7 @@ table =
     ∷ []
 
 pub table-is : compiled File file ≡ table
-unfolding kindOf numberOf known arity fold depth size sizesAllowed entries preorder arityOf makePart takeChildren trees treeOf nextOf block tableOf compiled
+unfolding compile
 table-is = refl
 
 -- The record after a beginning, after a cycle at 100, one at 101 and one at 102; the estimate has 2 for variable 0 in the last settling
@@ -87,7 +88,7 @@ pub record Worked : Type 0 where
   pub again-says : Says table again (1 ∷ 0 ∷ 1 ∷ 1 ∷ 1 ∷ 0 ∷ 0 ∷ 0 ∷ []) 0 102 (2 ∷ []) (1 ∷ 0 ∷ []) (100 ∷ 0 ∷ [])
 
 pub worked : Worked
-unfolding kindOf numberOf known arity testOf testAllowed conditionAllowed goalAllowed startAllowed countAllowed emptyAllowed operandAllowed fold depth size sizesAllowed entries preorder entryKnown entryAllowed arityOf makePart takeChildren trees treeOf programRefusal nextOf block tableOf compiled fileIn isTable outcome reached satisfied violated restZero valuesAllowed clockAllowed clocksAllowed markedChildren childrenAllowed partsAllowed rootAllowed recordBytes recordAllowed beginsIn initialMarksFrom initialMarks checkedFrom leavesFrom valuesFor goalBytes transition applied settledFrom estimateAllowed freshRecord beginRefusal begunInto offerRefusal offeredInto goalsInto worksFrom settleRefusal settledInto
+unfolding settleCall
 worked =
     record {
       begun-says = record { marks-are = refl; phase-is = refl; time-is = refl; estimate-is = refl; started-are = refl; starts-are = refl };
@@ -159,7 +160,7 @@ tree =
     (one (repeat (seq (more (start (operand 0 0 0)) (one (choice (operand 4 1 5) (goal (operand 0 0 1)) (goal (operand 0 0 2)))))))))
 
 pub tree-is : treeOf File file ≡ some tree
-unfolding kindOf numberOf known arity entries arityOf makePart takeChildren trees treeOf
+unfolding compile
 tree-is = refl
 
 pub record Unfolded : Type 0 where

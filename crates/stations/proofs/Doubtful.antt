@@ -10,13 +10,14 @@ use lib.ListN.{replicate}
 use Rattle.meaning.specs.declared.Form.the-variants.{File}
 use Rattle.meaning.specs.declared.Transition.the-variants.{Stays, Ends}
 use Rattle.meaning.specs.declared.Outcome.the-variants.{Satisfied, Violated}
-use Rattle.meaning.specs.Kinds.{SEQ, MAINTAIN, kindOf, numberOf, known, arity, testOf, testAllowed, conditionAllowed, goalAllowed, startAllowed, countAllowed, emptyAllowed, operandAllowed}
-use Rattle.meaning.specs.Tree.{Part, fold, size, depth, goal, start, wait, seq, maintain, one, more}
-use Rattle.meaning.specs.Program.{sizesAllowed, entries, preorder, entryKnown, entryAllowed, arityOf, makePart, takeChildren, trees, treeOf, programRefusal}
-use Rattle.meaning.specs.Table.{operandOf, nextAt, nextOf, block, tableOf, compiled, fileIn, isTable}
-use Rattle.meaning.specs.Conditions.{Situation, outcome, reached, satisfied, violated}
-use Rattle.meaning.specs.Record.{recordLength, lastTime, estimateIn, restZero, valuesAllowed, clockAllowed, clocksAllowed, markedChildren, childrenAllowed, partsAllowed, rootAllowed, recordBytes, recordAllowed}
-use Rattle.meaning.specs.Cycle.{beginsIn, initialMarksFrom, initialMarks, breaks, checkedFrom, leavesFrom, valuesFor, goalBytes, transition, applied, settledFrom, situation, estimateAllowed, freshRecord, beginRefusal, begunInto, offerRefusal, offeredInto, goalsInto, worksFrom, settleRefusal, settledInto}
+use Rattle.meaning.specs.Kinds.{SEQ, MAINTAIN, kindOf, numberOf, testOf}
+use Rattle.meaning.specs.Tree.{Part, goal, start, wait, seq, maintain, one, more}
+use Rattle.meaning.specs.Program.{treeOf}
+use Rattle.meaning.specs.Table.{operandOf, nextAt, compiled}
+use Rattle.meaning.specs.Conditions.{Situation, outcome, violated}
+use Rattle.meaning.specs.Record.{recordLength, lastTime, estimateIn}
+use Rattle.meaning.specs.Cycle.{beginsIn, initialMarksFrom, initialMarks, breaks, checkedFrom, leavesFrom, valuesFor, goalBytes, transition, applied, settledFrom, situation, begunInto, offeredInto, settledInto}
+use Rattle.meaning.proofs.Computed.{compile, settle as settleCall}
 use Rattle.agreement.specs.Unfolding.{Rest, broken, holding, afresh, check, working, settle}
 use Rattle.stations.specs.Moments.{Says, cycle, operand}
 
@@ -48,7 +49,7 @@ table =
     ∷ []
 
 pub table-is : compiled File file ≡ table
-unfolding kindOf numberOf known arity fold depth size sizesAllowed entries preorder arityOf makePart takeChildren trees treeOf nextOf block tableOf compiled
+unfolding compile
 table-is = refl
 
 -- The record after a beginning, and after cycles at 100 and 109; in the second the frame tilts: the settling's estimate has 1 for variable 1
@@ -140,7 +141,7 @@ pub record Worked : Type 0 where
   pub after-says : Says table after (1 ∷ 0 ∷ 0 ∷ 0 ∷ 0 ∷ 0 ∷ 1 ∷ []) 0 110 level (1 ∷ []) (100 ∷ [])
 
 pub worked : Worked
-unfolding kindOf numberOf known arity testOf testAllowed conditionAllowed goalAllowed startAllowed countAllowed emptyAllowed operandAllowed fold depth size sizesAllowed entries preorder entryKnown entryAllowed arityOf makePart takeChildren trees treeOf programRefusal nextOf block tableOf compiled fileIn isTable outcome reached satisfied violated restZero valuesAllowed clockAllowed clocksAllowed markedChildren childrenAllowed partsAllowed rootAllowed recordBytes recordAllowed beginsIn initialMarksFrom initialMarks checkedFrom leavesFrom valuesFor goalBytes transition applied settledFrom estimateAllowed freshRecord beginRefusal begunInto offerRefusal offeredInto goalsInto worksFrom settleRefusal settledInto
+unfolding settleCall
 worked =
     record {
       begun-says = record { marks-are = refl; phase-is = refl; time-is = refl; estimate-is = refl; started-are = refl; starts-are = refl };
@@ -160,7 +161,7 @@ tree =
     (one (goal (operand 0 0 1))))
 
 pub tree-is : treeOf File file ≡ some tree
-unfolding kindOf numberOf known arity entries arityOf makePart takeChildren trees treeOf
+unfolding compile
 tree-is = refl
 
 -- the SEQ is at its first child, a MAINTAIN that holds, whose SEQ is at its second
