@@ -2,10 +2,7 @@
 use Prim.Native.Nat.{ℕ}
 use mathlib.Core.Path.{_≡_, refl}
 use mathlib.Core.List.{List, [], _∷_}
-use Rattle.meaning.specs.Kinds.{kindOf, numberOf, known, arity, testOf, testAllowed, conditionAllowed, goalAllowed, startAllowed, countAllowed, emptyAllowed, operandAllowed}
-use Rattle.meaning.specs.Tree.{fold, depth, size}
-use Rattle.meaning.specs.Program.{sizesAllowed, entries, preorder, entryKnown, entryAllowed, arityOf, makePart, takeChildren, trees, treeOf, programRefusal}
-use Rattle.meaning.specs.Table.{nextOf, block, tableOf, compiled}
+use Rattle.meaning.proofs.Computed.{compile}
 use Rattle.desk_format.specs.Decimal.{digits, decimal}
 use Rattle.desk_format.specs.Writing.{textsFrom}
 use Rattle.desk_listing.specs.Listing.{line, rowLines, tableText, listing}
@@ -23,10 +20,10 @@ text10 =
     ∷ []
 
 station10 : listing file10 ≡ text10
-unfolding file10 text10 kindOf numberOf known arity testOf testAllowed conditionAllowed goalAllowed startAllowed countAllowed emptyAllowed operandAllowed fold depth size sizesAllowed entries preorder entryKnown entryAllowed arityOf makePart takeChildren trees treeOf programRefusal nextOf block tableOf compiled digits decimal line textsFrom rowLines tableText listing
+unfolding file10 text10 compile digits decimal line textsFrom rowLines tableText listing
 station10 = refl
 
 -- an empty file gets "1"
 refused : listing [] ≡ 49 ∷ 10 ∷ []
-unfolding programRefusal sizesAllowed entries trees treeOf compiled digits decimal line textsFrom rowLines tableText listing
+unfolding compile digits decimal line textsFrom rowLines tableText listing
 refused = refl
