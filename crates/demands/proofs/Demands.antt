@@ -27,7 +27,7 @@ use Rattle.agreement.proofs.Agreement.{failing-passes, runs-alike}
 use Rattle.agreement.proofs.Operations.{offer-below, settle-below, phase-settled, not-refused, read-table, operations-agree, promises-kept}
 use Rattle.sentences.specs.Fields.{Bytes}
 use Rattle.sentences.proofs.AllowedRecords.{exactly-allowed}
-use Rattle.sentences.proofs.OneTable.{reading-lays-down}
+use Rattle.sentences.proofs.OneTable.{compiling-lays-down}
 use Rattle.sentences.proofs.RoundTrip.{inverses}
 use Rattle.sentences.proofs.Stepping.{beginning-steps, offer-steps, settling-steps}
 use Rattle.sentences.proofs.Only.{beginning-only, offer-only, settling-only}
@@ -122,8 +122,8 @@ demand-1 =
     record {
       orders =
           record {
-            reading = λ f room. refl;
-            back-to-a-file = λ t room. refl;
+            compiling = λ f room. refl;
+            decompiling = λ t room. refl;
             beginning = λ t est room. refl;
             offer = λ t r time room. refl;
             settling = λ t r est. refl;
@@ -209,7 +209,7 @@ demand-2 =
           λ f out answer out' c z t.
           let h : compileRefusal f (length out) ≡ 0 = sym (c .answer-is) ∙ z in
           let e : tableIn f out' ≡ compiled File f = ap (tableIn f) (c .buffer-is) ∙ read-table f out h in
-          rw e (reading-lays-down f t (compile-accepts f (length out) .0 h .0));
+          rw e (compiling-lays-down f t (compile-accepts f (length out) .0 h .0));
       inverses = inverses;
       decompile-refuses = λ t out answer out' d. refuses-or-0 t (decompileTests t (length out)) refl refl answer (d .answer-is);
       begin-refuses = λ t est r answer r' b. refuses-or-0 t (beginTests t est (length r)) refl refl answer (b .answer-is);

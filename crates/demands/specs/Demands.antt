@@ -63,8 +63,8 @@ numbers [] = []
 numbers (test ∷ tests) = test .0 ∷ numbers tests
 
 pub record Orders : Type 0 where
-  pub reading : (f : List ℕ) (room : ℕ) → numbers (compileTests f room) ≡ 1 ∷ 2 ∷ 3 ∷ 4 ∷ 5 ∷ 6 ∷ 7 ∷ 8 ∷ []
-  pub back-to-a-file : (t : List ℕ) (room : ℕ) → numbers (decompileTests t room) ≡ 9 ∷ 8 ∷ []
+  pub compiling : (f : List ℕ) (room : ℕ) → numbers (compileTests f room) ≡ 1 ∷ 2 ∷ 3 ∷ 4 ∷ 5 ∷ 6 ∷ 7 ∷ 8 ∷ []
+  pub decompiling : (t : List ℕ) (room : ℕ) → numbers (decompileTests t room) ≡ 9 ∷ 8 ∷ []
   pub beginning : (t est : List ℕ) (room : ℕ) → numbers (beginTests t est room) ≡ 9 ∷ 13 ∷ 8 ∷ []
   pub offer : (t r : List ℕ) (time room : ℕ) → numbers (offerTests t r time room) ≡ 9 ∷ 10 ∷ 14 ∷ 11 ∷ 12 ∷ 8 ∷ []
   pub settling : (t r est : List ℕ) → numbers (settleTests t r est) ≡ 9 ∷ 10 ∷ 14 ∷ 11 ∷ 13 ∷ 15 ∷ []

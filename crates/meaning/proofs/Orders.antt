@@ -7,7 +7,7 @@ use Rattle.meaning.specs.Record.{recordBytes}
 use Rattle.meaning.proofs.Computed.{_gets_, Holds, file, goalTable, compile, decompile, begin, offer, settle}
 
 -- "reading 1 to 7, each over all parts, then 8"; where there is no room, 8 is a further fault
-pub reading-order : Holds
+pub compile-order : Holds
     (compile (0 ∷ 1 ∷ []) 0 gets 1  -- under 3 bytes, and N is 0
     ∷ compile (0 ∷ 1 ∷ 0 ∷ 9 ∷ []) 0 gets 2  -- N is 0, and the length is not 3
     ∷ compile (1 ∷ 1 ∷ 0 ∷ 9 ∷ []) 0 gets 3  -- the length is not 8, and a kind is unknown
@@ -20,14 +20,14 @@ pub reading-order : Holds
     ∷ compile (file ((1, 0) ∷ [])) 11 gets 0
     ∷ [])
 unfolding compile
-reading-order = refl
+compile-order = refl
 
 -- document 01's example of what is no table
 abbrev no-table : List ℕ
 no-table = 0x01 ∷ 0x01 ∷ 0x00 ∷ []
 
 -- "Back to a file 9, 8"
-pub giving-back-order : Holds
+pub decompile-order : Holds
     (decompile no-table 0 gets 9
     ∷ decompile goalTable 0 gets 8
     ∷ decompile goalTable 7 gets 8
@@ -39,7 +39,7 @@ pub giving-back-order : Holds
     ∷ decompile (set goalTable 9 251) 8 gets 9  -- an operand that is not allowed
     ∷ [])
 unfolding decompile
-giving-back-order = refl
+decompile-order = refl
 
 -- "Beginning 9, 13, 8"; "estimate not V bytes, or one above 250"
 pub beginning-order : Holds

@@ -15,7 +15,7 @@ pub record Compiled (f out : List ℕ) (answer : ℕ) (out' : List ℕ) : Type 0
   pub answer-is : answer ≡ compileRefusal f (length out)
   pub buffer-is : out' ≡ compiledInto f out
 
--- Giving back, of a table and an output buffer
+-- Decompiling, of a table and an output buffer
 pub record Decompiled (t out : List ℕ) (answer : ℕ) (out' : List ℕ) : Type 0 where
   pub answer-is : answer ≡ decompileRefusal t (length out)
   pub buffer-is : out' ≡ decompiledInto t out

@@ -21,7 +21,7 @@ use Rattle.meaning.specs.Program.{parts, operandBytes, entryAt}
 use Rattle.meaning.specs.Table.{operandOf, endAt, parentAt, nextAt, compiled, fileIn, isTable}
 use Rattle.meaning.proofs.Tables.{file-back, table-of-file, inside, Later}
 use Rattle.meaning.proofs.Nesting.{lower}
-use Rattle.sentences.specs.Rows.{ChildOf, Descendant, child, further, ChildOfKind, Following, numberOfChildren, LaidDown, ReadingLaysDown, TablesLaidDown}
+use Rattle.sentences.specs.Rows.{ChildOf, Descendant, child, further, ChildOfKind, Following, numberOfChildren, LaidDown, CompilingLaysDown, TablesLaidDown}
 use Rattle.sentences.proofs.TableRows.{counted, counted-both, counted-none, table-laid-down}
 
 -- two tables that are laid down for parts of the same kinds and operands
@@ -192,9 +192,9 @@ module _ (t u : List ℕ) (a : SameRows t u) where
       whole t (a .lengths) ∙ ap₂ (λ (x y : List ℕ). x ++ y) (a .sizes) rows ∙ sym (whole u refl)
 
 -- reading gives the table that document 01 lays down, and no other
-pub reading-lays-down : ReadingLaysDown
+pub compiling-lays-down : CompilingLaysDown
 unfolding fileIn
-reading-lays-down f t h = (
+compiling-lays-down f t h = (
   λ e. (ap fileIn (sym e) ∙ file-back f h, table-laid-down t (table-of-file t .1 (f, h, e))),
   λ x.
       let u : List ℕ = compiled File f in
@@ -223,5 +223,5 @@ tables-laid-down t = (
       let x = table-of-file t .0 h in
       let e : fileIn t ≡ x .0 = ap fileIn (sym (x .2)) ∙ file-back (x .0) (x .1) in
       (rw e (x .1), table-laid-down t h),
-  λ x. table-of-file t .1 (fileIn t, x .0, reading-lays-down (fileIn t) t (x .0) .1 (refl, x .1)),
+  λ x. table-of-file t .1 (fileIn t, x .0, compiling-lays-down (fileIn t) t (x .0) .1 (refl, x .1)),
 )

@@ -17,7 +17,7 @@ PartMarked t r p = 0 < getD (marksIn t r) p 0
 abbrev pub PartUnmarked : List ℕ → List ℕ → ℕ → Type 0
 PartUnmarked t r p = getD (marksIn t r) p 0 ≡ 0
 
--- part q is a child of part p
+-- part q is a child of part p: it stands inside p, and p is its parent
 pub record Child (t : List ℕ) (p q : ℕ) : Type 0 where
   pub after : p < q
   pub before-end : q < endAt t p

@@ -13,7 +13,7 @@ use Rattle.meaning.specs.Kinds.{Kind, SEQ, REPEAT, arity}
 use Rattle.meaning.specs.Program.{parts, entryAt, programRefusal}
 use Rattle.meaning.specs.Table.{kindAt, operandOf, endAt, parentAt, nextAt, compiled, fileIn, isTable}
 
--- part q is a child of part p
+-- part q is a child of part p: p is its parent. That it stands inside p is said below
 pub record ChildOf (t : List ℕ) (p q : ℕ) : Type 0 where
   pub parent-there : p < parts t
   pub child-there : q < parts t
@@ -63,8 +63,8 @@ pub record LaidDown (t : List ℕ) : Type 0 where
   pub children-are : (p : ℕ) → p < parts t → numberOfChildren t p ≡ arity (kindAt t p) (operandOf t p)
 
 -- Reading gives, of all byte lists that hold a file, the one that is laid down
-abbrev pub ReadingLaysDown : Type 0
-ReadingLaysDown = (f t : List ℕ) → programRefusal File f ≡ 0 → (compiled File f ≡ t) ↔ ((fileIn t ≡ f) × LaidDown t)
+abbrev pub CompilingLaysDown : Type 0
+CompilingLaysDown = (f t : List ℕ) → programRefusal File f ≡ 0 → (compiled File f ≡ t) ↔ ((fileIn t ≡ f) × LaidDown t)
 
 -- and the tables are those that hold an accepted file and are laid down
 abbrev pub TablesLaidDown : Type 0
