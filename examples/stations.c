@@ -1,13 +1,13 @@
 /*
  * The ten stations of document 01, its refusals, the misreadings that it names and some further
- * programs, as calls with what each must answer and every byte that it must leave. It runs on any
- * library with this header, and needs nothing else:
+ * programs, those of document 02's request R-1 among them, as calls with what each must answer and
+ * every byte that it must leave. It runs on any library with this header, and needs nothing else:
  *
  *   gcc -Iinclude examples/stations.c LIBRARY -o stations && ./stations
  *
- * A station that is as document 01 says has one line of output, and one that is not has the first
+ * A station that is as the papers say has one line of output, and one that is not has the first
  * difference; then the exit status is 1. The output of a right library is examples/stations.out.
- * Everything here was worked out from document 01, and nothing from what a library printed.
+ * Everything here was worked out from the papers, and nothing from what a library printed.
  *
  * Each station runs twice: with buffers of just the length that is needed, and with longer ones.
  * After every call all buffers are compared whole, what is lent of them and what lies behind. So a
@@ -47,11 +47,12 @@ struct step {
 
 #define STATION(name) {NAME, name, "", 0, 0, 0}
 
-/* Calls that are accepted. A file is compiled, and its table must give it back. Which contested
- * variable an offer names follows from the goals: any of them, or none. */
+/* Calls that are accepted. A file is compiled, and its table must give it back. An offer names no
+ * variable, or the lowest-numbered of those that are contested. */
 #define COMPILED(file, table) {COMPILE, file, table, 0, 0, 0}
 #define BEGUN(estimate, marks) {BEGIN, estimate, marks, 0, 0, 0}
-#define OFFERED(time, goals, marks) {OFFER, goals, marks, time, 0, GURVOKE_ANSWERED}
+#define NAMED(named, time, goals, marks) {OFFER, goals, marks, time, 0, GURVOKE_ANSWERED + (named)}
+#define OFFERED(time, goals, marks) NAMED(GURVOKE_NONE, time, goals, marks)
 #define RUNNING(estimate, marks) {SETTLE, estimate, marks, 0, 0, GURVOKE_RUNNING}
 #define FINISHED(estimate, marks) {SETTLE, estimate, marks, 0, 0, GURVOKE_FINISHED}
 
@@ -103,6 +104,11 @@ struct step {
 #define OPERANDS_3 "00 00 00 00  00 00 00 00  00 00 00 00"
 #define OPERANDS_15 OPERANDS_3 OPERANDS_3 OPERANDS_3 OPERANDS_3 OPERANDS_3
 #define REPEATS_16 "11 01 01" KINDS_15 "08 01" OPERANDS_15 "00 00 00 00  00 00 01 00"
+
+/* Bytes of many variables. */
+#define TEN(byte) byte byte byte byte byte byte byte byte byte byte
+#define THIRTY(byte) TEN(byte) TEN(byte) TEN(byte)
+#define THIRTY_ONE(byte) THIRTY(byte) byte
 
 /* Station 2 with one estimate of "any settling", station 3 with one time of "any first time". */
 #define SETTLED_WITH(estimate)                                                                   \
@@ -160,7 +166,7 @@ static const struct step steps[] = {
              "01 02 00 FF 00 00 01 00"
              "01 03 00 FF 00 00 02 00"),
     BEGUN("00", "111"),
-    OFFERED(0, "FE", "111"),
+    NAMED(0, 0, "FE", "111"),
     RUNNING("01", "101"),
     OFFERED(0, "02", "101"),
     FINISHED_IN(0),
@@ -377,7 +383,7 @@ static const struct step steps[] = {
 
     STATION("contested variables"),
     /* PAR(GOAL 1=1, GOAL 1=2, GOAL 2=7, GOAL 2=8, GOAL 3=9, GOAL 3=9): 1 and 2 are contested, and
-     * either may be named */
+     * the lower is named; then 2 alone is contested, and named */
     COMPILED("07 04 00  05 01 01 01 01 01 01"
              "06 00 00 00  00 01 01 00  00 01 02 00  00 02 07 00"
              "00 02 08 00  00 03 09 00  00 03 09 00",
@@ -390,15 +396,109 @@ static const struct step steps[] = {
              "01 06 00 FF 00 03 09 00"
              "01 07 00 FF 00 03 09 00"),
     BEGUN("00 00 00 00", "1111111"),
-    OFFERED(3, "FF FE FE 09", "1111111"),
+    NAMED(1, 3, "FF FE FE 09", "1111111"),
     RUNNING("05 02 00 06", "1101111"),
-    OFFERED(3, "FF 01 FE 09", "1101111"),
+    NAMED(2, 3, "FF 01 FE 09", "1101111"),
     RUNNING("05 02 07 06", "1100111"),
     OFFERED(3, "FF 01 08 09", "1100111"),
     RUNNING("05 02 08 09", "1100000"),
     OFFERED(3, "FF 01 FF FF", "1100000"),
     FINISHED("05 01 08 09", "0000000"),
     FINISHED_IN(4),
+
+    STATION("the first and the last variable contested"),
+    /* PAR(GOAL 31=1, GOAL 31=2, GOAL 0=1, GOAL 0=2): 0 is named, then 31 when it alone is left */
+    COMPILED("05 20 00  05 01 01 01 01"
+             "04 00 00 00  00 1F 01 00  00 1F 02 00  00 00 01 00  00 00 02 00",
+             "05 20 00"
+             "05 05 FF FF 04 00 00 00"
+             "01 02 00 FF 00 1F 01 00"
+             "01 03 00 FF 00 1F 02 00"
+             "01 04 00 FF 00 00 01 00"
+             "01 05 00 FF 00 00 02 00"),
+    BEGUN("00" THIRTY("00") "00", "11111"),
+    NAMED(0, 0, "FE" THIRTY("FF") "FE", "11111"),
+    RUNNING("01" THIRTY("00") "00", "11101"),
+    NAMED(31, 0, "02" THIRTY("FF") "FE", "11101"),
+    RUNNING("02" THIRTY("00") "01", "10100"),
+    OFFERED(0, "FF" THIRTY("FF") "02", "10100"),
+    FINISHED("00" THIRTY("00") "02", "00000"),
+    FINISHED_IN(3),
+    /* or 0 when it alone is left */
+    BEGUN("00" THIRTY("00") "00", "11111"),
+    NAMED(0, 0, "FE" THIRTY("FF") "FE", "11111"),
+    RUNNING("00" THIRTY("00") "02", "11011"),
+    NAMED(0, 0, "FE" THIRTY("FF") "01", "11011"),
+
+    STATION("contested among others"),
+    /* PAR(GOAL 5=1, GOAL 0=5, GOAL 1=7, GOAL 3=1, GOAL 1=7, GOAL 3=250, GOAL 5=2), six variables: 3
+     * and 5 are contested; 0 has one GOAL, those of 1 agree, 2 and 4 have none */
+    COMPILED("08 06 00  05 01 01 01 01 01 01 01"
+             "07 00 00 00  00 05 01 00  00 00 05 00  00 01 07 00"
+             "00 03 01 00  00 01 07 00  00 03 FA 00  00 05 02 00",
+             "08 06 00"
+             "05 08 FF FF 07 00 00 00"
+             "01 02 00 FF 00 05 01 00"
+             "01 03 00 FF 00 00 05 00"
+             "01 04 00 FF 00 01 07 00"
+             "01 05 00 FF 00 03 01 00"
+             "01 06 00 FF 00 01 07 00"
+             "01 07 00 FF 00 03 FA 00"
+             "01 08 00 FF 00 05 02 00"),
+    BEGUN("00 00 00 00 00 00", "11111111"),
+    NAMED(3, 0, "05 07 FF FE FF FE", "11111111"),
+    RUNNING("05 00 00 FA 00 00", "11011101"),
+    NAMED(5, 0, "FF 07 FF 01 FF FE", "11011101"),
+    RUNNING("00 07 00 00 00 01", "10001001"),
+    OFFERED(0, "FF FF FF 01 FF 02", "10001001"),
+
+    STATION("values 1, 2, 1"),
+    /* PAR(GOAL 0=1, GOAL 0=2, GOAL 0=1): two differ. Once 2 has ended the others agree, */
+    COMPILED("04 01 00  05 01 01 01  03 00 00 00  00 00 01 00  00 00 02 00  00 00 01 00",
+             "04 01 00"
+             "05 04 FF FF 03 00 00 00"
+             "01 02 00 FF 00 00 01 00"
+             "01 03 00 FF 00 00 02 00"
+             "01 04 00 FF 00 00 01 00"),
+    BEGUN("00", "1111"),
+    NAMED(0, 0, "FE", "1111"),
+    RUNNING("02", "1101"),
+    OFFERED(0, "01", "1101"),
+    FINISHED("01", "0000"),
+    FINISHED_IN(2),
+    /* and once both 1 have ended, 2 is alone */
+    BEGUN("00", "1111"),
+    NAMED(0, 0, "FE", "1111"),
+    RUNNING("00", "1111"),
+    NAMED(0, 0, "FE", "1111"),
+    RUNNING("01", "1010"),
+    OFFERED(0, "02", "1010"),
+    FINISHED("02", "0000"),
+    FINISHED_IN(3),
+
+    STATION("a MAINTAIN that breaks contests nothing"),
+    /* PAR(MAINTAIN(2 differs from 1, PAR(GOAL 0=1, GOAL 0=2)), GOAL 1=1, GOAL 1=2): 0 is named, and
+     * 1 from the offer on that finds the MAINTAIN violated */
+    COMPILED("07 03 00  05 06 05 01 01 01 01"
+             "03 00 00 00  02 02 01 00  02 00 00 00  00 00 01 00"
+             "00 00 02 00  00 01 01 00  00 01 02 00",
+             "07 03 00"
+             "05 07 FF FF 03 00 00 00"
+             "06 05 00 FF 02 02 01 00"
+             "05 05 01 FF 02 00 00 00"
+             "01 04 02 FF 00 00 01 00"
+             "01 05 02 FF 00 00 02 00"
+             "01 06 00 FF 00 01 01 00"
+             "01 07 00 FF 00 01 02 00"),
+    BEGUN("00 00 00", "1111111"),
+    NAMED(0, 0, "FE FE FF", "1111111"),
+    RUNNING("00 00 01", "1111111"),
+    NAMED(1, 0, "FF FE FF", "1100011"),
+    RUNNING("00 00 00", "1000011"),
+    NAMED(1, 0, "FF FE FF", "1000011"),
+    RUNNING("00 02 00", "1000010"),
+    OFFERED(0, "FF 01 FF", "1000010"),
+    FINISHED_IN(0),
 
     STATION("a MAINTAIN that breaks starts no clock"), /* MAINTAIN(0=0, START 0) */
     COMPILED("02 01 01  06 02  01 00 00 00  00 00 00 00",
@@ -744,20 +844,6 @@ static bool is_answer(uint32_t is, uint32_t must_be)
     return is == must_be;
 }
 
-/* An accepted offer names a variable whose goal byte is FE, any of them, or none where none is. */
-static bool is_offer_answer(uint32_t answer)
-{
-    uint32_t first = GURVOKE_NONE;
-    for (uint32_t v = lent.table[GURVOKE_VARIABLES_PLACE]; v-- > 0;) {
-        if (right.goals[v] != GURVOKE_CONTESTED)
-            continue;
-        if (answer == GURVOKE_ANSWERED + v)
-            return true;
-        first = v;
-    }
-    return is_answer(answer, GURVOKE_ANSWERED + first);
-}
-
 /* The bytes of a file or an estimate, for the call to read: how many. */
 static size_t lend_input(const char *text)
 {
@@ -813,16 +899,19 @@ static bool begin(const struct step *step)
 static bool offer(const struct step *step)
 {
     size_t room = step->value;
-    bool accepted = step->answer >= GURVOKE_ANSWERED;
-    if (accepted) {
-        room = read_bytes(step->bytes, right.goals) + further;
+    if (step->answer >= GURVOKE_ANSWERED) {
+        size_t variables = read_bytes(step->bytes, right.goals);
+        room = variables + further;
+        /* Further bytes are no goals, even if they look contested. */
+        memset(lent.goals + variables, GURVOKE_CONTESTED, further);
+        memset(right.goals + variables, GURVOKE_CONTESTED, further);
         right.record[GURVOKE_PHASE_PLACE] = GURVOKE_PHASE_OFFERED;
         write_time(right.record + GURVOKE_TIME_PLACE, step->number);
         read_marks(step->after, right.record + GURVOKE_MARKS_PLACE);
     }
     uint32_t answer = gurvoke_offer(lent.table, table_len, lent.record, record_len, step->number,
                                     lent.goals, room);
-    return (accepted ? is_offer_answer(answer) : is_answer(answer, step->answer)) && are_right();
+    return is_answer(answer, step->answer) && are_right();
 }
 
 static bool settle(const struct step *step)
@@ -847,9 +936,6 @@ static bool take(const struct step *step);
 /* The longest program: 199 GOALs that the last of 32 variables is 1, in a SEQ. The texts of its file
  * and of its table, and of the marks where the SEQ is at part p. */
 enum { LAST_PART = GURVOKE_MAX_PARTS - 1 };
-
-#define EIGHT(byte) byte byte byte byte byte byte byte byte
-#define THIRTY_ONE(byte) EIGHT(byte) EIGHT(byte) EIGHT(byte) byte byte byte byte byte byte byte
 
 static char file_text[2 * GURVOKE_MAX_FILE + 1];
 static char table_text[2 * GURVOKE_MAX_TABLE + 1];
@@ -959,7 +1045,7 @@ int main(void)
         if (step->what != NAME)
             continue;
         if (run(step, 0) && run(step, FURTHER))
-            printf("%s: as document 01 says\n", name);
+            printf("%s: as the papers say\n", name);
         else
             status = 1;
     }

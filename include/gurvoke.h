@@ -54,11 +54,14 @@ extern "C" {
 /*
  * The version of this interface. The major number grows when something that was there changes its
  * meaning or goes: a function, a number, or the layout of files, tables or records, so that those
- * stored before have to be made anew. The minor number grows when something is added; it begins at
- * 0 with each major number.
+ * stored before have to be made anew. The minor number grows when something is added, or promised
+ * more closely, so that callers of the older version need not change; it begins at 0 with each major
+ * number.
+ *
+ * 1.1  An offer names the lowest-numbered contested variable; in 1.0 it could be any of them.
  */
 #define GURVOKE_VERSION_MAJOR 1
-#define GURVOKE_VERSION_MINOR 0
+#define GURVOKE_VERSION_MINOR 1
 
 /*
  * The most parts, variables and clocks of a program, the depth of its deepest part (the root has
@@ -179,8 +182,9 @@ extern "C" {
                                       marked (no such record is known) */
 
 /*
- * Answers from here on are no refusals: of an offer GURVOKE_ANSWERED + the number of a contested
- * variable, or + GURVOKE_NONE where none is contested; of a settling one of the next two.
+ * Answers from here on are no refusals: of an offer GURVOKE_ANSWERED + the variable that it names, the
+ * lowest-numbered contested one, or + GURVOKE_NONE where none is contested; of a settling one of the
+ * next two.
  */
 #define GURVOKE_ANSWERED 256
 #define GURVOKE_RUNNING (GURVOKE_ANSWERED)
@@ -191,8 +195,9 @@ extern "C" {
 #define GURVOKE_IS_REFUSAL(answer) ((uint32_t)(answer) - 1u < GURVOKE_ANSWERED - 1u)
 
 /*
- * The contested variable that the answer of an accepted offer names, GURVOKE_NONE where none is
- * contested, and whether that is so.
+ * The variable that the answer of an accepted offer names: the lowest-numbered contested one, whatever
+ * order the GOALs stand in, so that every board lights the same lamp on its deck panel; GURVOKE_NONE
+ * where none is contested. And whether none is.
  */
 #define GURVOKE_NAMED(answer) ((uint32_t)(answer) - GURVOKE_ANSWERED)
 #define GURVOKE_NAMES_NONE(answer) (GURVOKE_NAMED(answer) == GURVOKE_NONE)
@@ -229,8 +234,8 @@ uint32_t gurvoke_begin(const uint8_t *table, size_t table_len, const uint8_t *es
  * Offers the goals of a cycle at a time in whole seconds, not before the last one: writes one
  * byte for each variable to the start of `goals`, a value up to GURVOKE_MAX_VALUE, GURVOKE_NO_GOAL or
  * GURVOKE_CONTESTED, and the cycle into the record. Further bytes of `goals` and `record` stay as
- * they are. Answers a refusal (9, 10, 14, 11, 12, 8), or GURVOKE_ANSWERED + a variable whose goal
- * byte is GURVOKE_CONTESTED, or GURVOKE_ANSWERED + GURVOKE_NONE where there is none.
+ * they are. Answers a refusal (9, 10, 14, 11, 12, 8), or GURVOKE_ANSWERED + the lowest variable whose
+ * goal byte is GURVOKE_CONTESTED, or GURVOKE_ANSWERED + GURVOKE_NONE where there is none.
  */
 uint32_t gurvoke_offer(const uint8_t *table, size_t table_len, uint8_t *record, size_t record_len,
                        uint32_t time, uint8_t *goals, size_t goals_len);

@@ -2,9 +2,10 @@
  * A plain executive over the location table: the five functions of include/gurvoke.h under another
  * prefix, with the same answers and buffers.
  *
- * It is written from document 01, with nothing proved, as one would write it for a board. The tests
- * of the library run on it too, and bin/performance compares the library's cost with its cost. It is
- * one file, so that the compiler has all of it at hand, as it has all of the library.
+ * It is written from document 01 and from document 02's R-1, with nothing proved, as one would write
+ * it for a board. The tests of the library run on it too, and bin/performance compares the library's
+ * cost with its cost. It is one file, so that the compiler has all of it at hand, as it has all of the
+ * library.
  */
 #include <stdbool.h>
 #include <stddef.h>
@@ -524,8 +525,8 @@ static void offer_goals(const uint8_t *table, uint8_t *record, uint8_t *goals)
     }
 }
 
-/* The lowest contested variable. */
-static unsigned contested(const uint8_t *goals, unsigned variables)
+/* The lowest contested variable, which the offer names, or none. */
+static unsigned lowest_contested(const uint8_t *goals, unsigned variables)
 {
     for (unsigned variable = 0; variable < variables; variable++) {
         if (goals[variable] == CONTESTED)
@@ -547,7 +548,7 @@ uint32_t board_offer(const uint8_t *table, size_t table_len, uint8_t *record, si
     record[PHASE] = PHASE_OFFERED;
     write_time(record + TIME, time);
     offer_goals(table, record, goals);
-    return ANSWERED + contested(goals, table[VARIABLES]);
+    return ANSWERED + lowest_contested(goals, table[VARIABLES]);
 }
 
 /* Whether nothing is marked inside a part. */

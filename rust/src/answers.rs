@@ -3,8 +3,8 @@
 /// A reading, a giving back or a beginning is done.
 pub const DONE: u32 = 0;
 
-/// Answers from here on are no refusals. An accepted offer answers with this and the contested
-/// variable that it names.
+/// Answers from here on are no refusals. An accepted offer answers with this and the lowest
+/// contested variable, which it names.
 pub const ANSWERED: u32 = 256;
 /// An offer names this where no variable is contested.
 pub const NO_VARIABLE: u8 = 255;

@@ -11,7 +11,7 @@ pub struct Executive {
     pub decompile: fn(&[u8], &mut [u8]) -> Result<(), u32>,
     /// Table, first estimate, record: `DONE`, or the refusal.
     pub begin: fn(&[u8], &[u8], &mut [u8]) -> u32,
-    /// Table, record, time, goals: the refusal, or `ANSWERED` and the contested variable named.
+    /// Table, record, time, goals: the refusal, or `ANSWERED` and the lowest contested variable.
     pub offer: fn(&[u8], &mut [u8], u32, &mut [u8]) -> u32,
     /// Table, record, estimate: the refusal, or whether the run goes on (`RUNNING`, `FINISHED`).
     pub settle: fn(&[u8], &mut [u8], &[u8]) -> u32,

@@ -83,7 +83,7 @@ macro_rules! c_interface {
         }
 
         /// Offers the goals of a cycle at this time. The answer is the refusal's number, or
-        /// `ANSWERED` and the contested variable that is named, `NO_VARIABLE` where there is none.
+        /// `ANSWERED` and the lowest contested variable, `NO_VARIABLE` where there is none.
         pub fn offer(table: &[u8], record: &mut [u8], time: u32, goals: &mut [u8]) -> u32 {
             // SAFETY: the pointers come from slices of the given lengths, which do not overlap.
             unsafe {

@@ -1,9 +1,9 @@
 //! A plain executive over the location table, with the answers and buffers of the C interface.
 //!
-//! It is written from document 01's "Location table", "Run record" and "One cycle over the table", in
-//! the order of its sentences and with nothing proved: slices, loops and local arrays, as one would
-//! write it for a board. The tests of the library run on it too, and `bin/performance` compares the
-//! library's cost with its cost.
+//! It is written from document 01's "Location table", "Run record" and "One cycle over the table" and
+//! from document 02's R-1, in the order of their sentences and with nothing proved: slices, loops and
+//! local arrays, as one would write it for a board. The tests of the library run on it too, and
+//! `bin/performance` compares the library's cost with its cost.
 
 mod program;
 mod table;
@@ -47,7 +47,7 @@ pub fn begin(table: &[u8], estimate: &[u8], record: &mut [u8]) -> u32 {
     DONE
 }
 
-/// Offers the goals of a cycle: the refusal, or `ANSWERED` and the contested variable named.
+/// Offers the goals of a cycle: the refusal, or `ANSWERED` and the lowest contested variable.
 pub fn offer(table: &[u8], record: &mut [u8], time: u32, goals: &mut [u8]) -> u32 {
     let (table, record) = match examine(table, record, WAITING) {
         Ok(run) => run,
@@ -62,7 +62,6 @@ pub fn offer(table: &[u8], record: &mut [u8], time: u32, goals: &mut [u8]) -> u3
     record[PHASE] = OFFERED;
     record[TIME..TIME + TIME_LEN].copy_from_slice(&time.to_le_bytes());
     table.write_goals(record, goals);
-    // The lowest contested variable is named.
     let contested = goals.iter().position(|&byte| byte == CONTESTED);
     let named = contested.map_or(NO_VARIABLE, |variable| variable as u8);
     ANSWERED + u32::from(named)

@@ -210,16 +210,16 @@ impl<'a> LatestRun<'a> {
         for clock in 0..self.program.sizes.clocks {
             let started = record[record::STARTED + clock] == 1;
             let start = started.then(|| time_at(&record, record::start_place(clock)));
-            _ = writeln!(text, "clock {clock} {}", or_dash(start));
+            _ = writeln!(text, "clock {clock} {}", number_or("-", start));
         }
         let cycle = self.run().and_then(|run| run.finishing_cycle);
-        text + &format!("finishing cycle {}\n", or_dash(cycle))
+        text + &format!("finishing cycle {}\n", number_or("-", cycle))
     }
 }
 
-/// A number, or the sign that there is none.
-fn or_dash(number: Option<impl ToString>) -> String {
-    number.map_or("-".to_string(), |number| number.to_string())
+/// A number, or what says that there is none.
+fn number_or(none: &str, number: Option<impl ToString>) -> String {
+    number.map_or(none.to_string(), |number| number.to_string())
 }
 
 /// The line for an answer.
@@ -228,11 +228,7 @@ fn answer_line(answer: &Answer) -> String {
         Answer::Refused(number) => format!("refused {number}\n"),
         Answer::Begun => "begun\n".to_string(),
         Answer::Offered(offer) => {
-            // An offer may name any contested variable. The executive names the lowest.
-            let named = match offer.contested.iter().min() {
-                Some(variable) => variable.to_string(),
-                None => "none".to_string(),
-            };
+            let named = number_or("none", offer.named);
             format!("goals {} named {named}\n", hex(&offer.goals))
         }
         Answer::Settled(Progress::Running) => "running\n".to_string(),

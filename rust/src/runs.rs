@@ -15,7 +15,7 @@ use crate::unfolding::{Program, Run, Tree};
 
 pub use any_state::any_state;
 pub use findings::{findings, Findings};
-pub use programs::{doubtful_program, program, program_of};
+pub use programs::{contending_program, doubtful_program, program, program_of};
 
 /// A call of a run.
 #[derive(Clone, Debug, PartialEq, Eq)]

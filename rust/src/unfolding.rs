@@ -1,8 +1,9 @@
 //! A run by unfolding the program's tree: no table, no rows and no marks.
 //!
-//! It is written from document 01's "Unfolding the tree" and "The two runs of demand 3" alone, and
-//! shares nothing with the library or with the executive over the table. The state is what these
-//! sections name: phase, last time, estimate, clocks, and what remains of the tree.
+//! It is written from nothing but document 01's "Unfolding the tree" and "The two runs of demand 3"
+//! and document 02's R-1, and shares nothing with the library or with the executive over the table.
+//! The state is what these sections name: phase, last time, estimate, clocks, and what remains of the
+//! tree.
 
 mod tree;
 
@@ -40,8 +41,8 @@ impl Program {
 pub struct Offer {
     /// A goal byte for each variable.
     pub goals: Vec<u8>,
-    /// The variables that are given different values; an offer names any one of them.
-    pub contested: Vec<u8>,
+    /// The lowest-numbered contested variable, if one is contested.
+    pub named: Option<u8>,
 }
 
 /// What an accepted settling says.
@@ -199,23 +200,36 @@ fn estimate_allowed(program: &Program, estimate: &[u8]) -> bool {
         && estimate.iter().all(|&value| u16::from(value) <= MAX_VALUE)
 }
 
-/// The goal byte of each variable, and which variables are contested, from the goals offered.
+/// What an offer gives, from the variables and values of the GOALs at work.
 fn offer_of(variables: usize, goals: &[(usize, u8)]) -> Offer {
-    let mut offer = Offer {
-        goals: vec![NO_GOAL; variables],
-        contested: Vec::new(),
-    };
-    for (variable, byte) in offer.goals.iter_mut().enumerate() {
-        let mut values = goals
-            .iter()
-            .filter(|goal| goal.0 == variable)
-            .map(|goal| goal.1);
-        let Some(first) = values.next() else { continue };
-        *byte = first;
-        if values.any(|value| value != first) {
-            *byte = CONTESTED;
-            offer.contested.push(variable as u8);
-        }
+    Offer {
+        goals: (0..variables)
+            .map(|variable| goal_byte(variable, goals))
+            .collect(),
+        named: lowest_contested(goals),
     }
-    offer
+}
+
+/// No goal where no GOAL names the variable, the value where all agree, contested where two differ.
+fn goal_byte(variable: usize, goals: &[(usize, u8)]) -> u8 {
+    let mut values = goals
+        .iter()
+        .filter(|goal| goal.0 == variable)
+        .map(|goal| goal.1);
+    match values.next() {
+        None => NO_GOAL,
+        Some(first) if values.all(|value| value == first) => first,
+        Some(_) => CONTESTED,
+    }
+}
+
+/// The lowest variable to which two GOALs give different values.
+fn lowest_contested(goals: &[(usize, u8)]) -> Option<u8> {
+    let is_contested = |&&(variable, value): &&(usize, u8)| {
+        goals
+            .iter()
+            .any(|goal| goal.0 == variable && goal.1 != value)
+    };
+    let contested = goals.iter().filter(is_contested);
+    contested.map(|goal| goal.0 as u8).min()
 }

@@ -9,7 +9,7 @@ use mathlib.Core.List.{List, [], _∷_, _++_, append-nil}
 use lib.Dec.{eqb, leb}
 use lib.ListN.{length, getD, drop}
 use lib.Seq.{sets}
-use borrow.Author.Tests.{leb-true, eqb-true, eqb-false}
+use borrow.Author.Tests.{leb-true, eqb-true}
 use Rattle.base.specs.Lists.{all, firstFailing, bytesAt}
 use Rattle.base.proofs.Lists.{and-left, and-right, cond-map, cond-same, none-fails, all-replicate}
 use Rattle.base.proofs.Stores.{bytes-sets}
@@ -20,7 +20,7 @@ use Rattle.meaning.specs.Program.{variables, clocks, parts, entryAllowed, Withi
 use Rattle.meaning.specs.Table.{tableOf, compiled, isTable}
 use Rattle.meaning.specs.Conditions.{Situation}
 use Rattle.meaning.specs.Record.{waiting, offered, finished, recordBytes, recordLength, rootAllowed, partsAllowed, recordAllowed, clockAllowed}
-use Rattle.meaning.specs.Cycle.{initialMarks, beginRefusal, begunInto, leavesFrom, goalBytes, rootEnded, worksFrom, estimateAllowed, offerRefusal, checkedMarks, offeredRecord, offeredGoals, offeredInto, goalsInto, settledMarks, settleRefusal, settledRecord, settledInto, clockFlags, clockStarts}
+use Rattle.meaning.specs.Cycle.{initialMarks, beginRefusal, begunInto, leavesFrom, goalBytes, rootEnded, worksFrom, estimateAllowed, offerRefusal, checkedMarks, offeredRecord, offeredGoals, offeredName, offeredInto, goalsInto, settledMarks, settleRefusal, settledRecord, settledInto, clockFlags, clockStarts}
 use Rattle.meaning.specs.Answers.{bufferTooShort, wrongPhase, timeBeforeLast, estimateNotAllowed, runFinished}
 use Rattle.meaning.proofs.Files.{accepted-file}
 use Rattle.meaning.proofs.Tables.{table-holds, table-accepted, tree-table, compiled-is}
@@ -29,8 +29,8 @@ use Rattle.meaning.proofs.Records.{Fits, judged, phase-read, time-read, estimat
 use Rattle.meaning.proofs.Refusals.{begin-refused}
 use Rattle.meaning.proofs.Lies.{Lies, root-lies}
 use Rattle.agreement.specs.Unfolding.{Rest, afresh, check, working, settle}
-use Rattle.agreement.specs.Runs.{Call, offer, settling, Reply, refused, goals, running, done, tableReply, tableNext, State, begin, Fed, fed, offering, settled, refusalOf, workingOf, phaseFor, treeNext, treeReply, acceptedReply, settledState, NameAlike, possible, Alike, settlingCount, tableFinishing, treeFinishing, Timed, RunsAlike}
-use Rattle.agreement.proofs.Contested.{names-contested}
+use Rattle.agreement.specs.Runs.{Call, offer, settling, Reply, refused, goals, running, done, tableReply, tableNext, State, begin, Fed, fed, offering, settled, refusalOf, workingOf, phaseFor, treeNext, treeReply, acceptedReply, lowestAtWork, settledState, possible, Alike, settlingCount, tableFinishing, treeFinishing, Timed, RunsAlike}
+use Rattle.agreement.proofs.Contested.{names-alike}
 use Rattle.agreement.proofs.AtWork.{all-working, small-values}
 use Rattle.agreement.proofs.Shapes.{length-marks}
 use Rattle.agreement.proofs.Passes.{leaves-blank, leaves-whole, check-whole, initial-lies}
@@ -186,7 +186,6 @@ module _ (v k : ℕ) (p : Part) (w : Within v k p) where
   -- One call: the same reply, a record that holds the next state, and a state that a run comes to
   record Stepped (r : List ℕ) (st : State p) (more : List ℕ) (c : Call) : Type 0 where
     replied : tableReply t r c ≡ treeReply p v k st (fed c)
-    named : NameAlike t r p st c
     holding : tableNext t r c ≡ recordIn (treeNext p v k st (fed c)) more
     good : GoodState (treeNext p v k st (fed c))
 
@@ -245,7 +244,6 @@ module _ (v k : ℕ) (p : Part) (w : Within v k p) where
       let e = offer-refusal phase time est started starts more rest g now (length buffer) in
       record {
         replied = rw (e, z);
-        named = λ a. absurd (eqb-false (refusalOf p v (stateOf phase time est started starts rest) (offering now (length buffer))) 0 z (sym e ∙ a));
         holding = rw (e, z);
         good = rw z g;
       }
@@ -261,6 +259,13 @@ module _ (v k : ℕ) (p : Part) (w : Within v k p) where
         rw (offered-leaves phase time est started starts r g more now f later, variables-are)
         (bytes-sets (goalBytes v (working p (check (judged est started starts now) p r))) buffer 0 v (length-goals v (working p (check (judged est started starts now) p r))) (omega arith))
 
+    -- the variable that it names
+    offered-name : (now : ℕ) → now < timeLimit → time ≤ now → offeredName t (recordIn here more) now ≡ lowestAtWork (working p (check (judged est started starts now) p r)) 0 v
+    offered-name now f later =
+        let es = working p (check (judged est started starts now) p r) in
+        rw (offered-leaves phase time est started starts r g more now f later, variables-are)
+        (names-alike es (small-values v k es (all-working (entryAllowed v k) p (check (judged est started starts now) p r) (w .entries-allowed))) v)
+
     offer-accepted : (now : ℕ) → now < timeLimit → (buffer : List ℕ) → refusalOf p v here (offering now (length buffer)) ≡ 0 → Stepped (recordIn here more) here more (offer now buffer)
     unfolding treeReply treeNext offeredInto goalsInto
     offer-accepted now f buffer z =
@@ -268,8 +273,7 @@ module _ (v k : ℕ) (p : Part) (w : Within v k p) where
         let waits = offer-waits phase time now (length buffer) est started starts (some r) (g .phased) z in
         let given = offered-goals now f (waits .later) buffer (waits .room-enough) in
         record {
-          replied = rw (e, z) (ap goals given);
-          named = λ a name n. rw variables-are (names-contested v (working p (check (judged est started starts now) p r)) (small-values v k (working p (check (judged est started starts now) p r)) (all-working (entryAllowed v k) p (check (judged est started starts now) p r) (w .entries-allowed))) name (rw (e, given) at n));
+          replied = rw (e, z) (ap₂ goals given (offered-name now f (waits .later)));
           holding = rw (e, z) (offered-held phase time est started starts r g more now f (waits .later));
           good = rw z (offered-good phase time est started starts r g more now f (waits .later));
         }
@@ -280,7 +284,7 @@ module _ (v k : ℕ) (p : Part) (w : Within v k p) where
   unfolding treeReply treeNext settledInto
   settle-refused phase time est started starts rest g more new z =
       let e = settle-refusal phase time est started starts more rest g new in
-      record { replied = rw (e, z); named = tt; holding = rw (e, z); good = rw z g }
+      record { replied = rw (e, z); holding = rw (e, z); good = rw z g }
 
   module _ (phase time : ℕ) (est started starts : List ℕ) (r : Rest p) (g : Good phase time est started starts (some r)) (more : List ℕ) where
     settle-accepted : (new : List ℕ) → refusalOf p v (stateOf phase time est started starts (some r)) (settled new) ≡ 0
@@ -293,7 +297,6 @@ module _ (v k : ℕ) (p : Part) (w : Within v k p) where
         let next = settled-good phase time est started starts r g more new (found .long) (found .small) in
         record {
           replied = rw (e, z, h, phase-read (next .fits) (phaseFor p (settle (judged new started starts time) p r)) more);
-          named = tt;
           holding = rw (e, z) h;
           good = rw z next;
         }
@@ -368,7 +371,6 @@ module _ (v k : ℕ) (p : Part) (w : Within v k p) where
   alike [] st more g h =
       record {
         replies = refl;
-        names = tt;
         never = refl;
         phases = phase-read (g .fits) (st .phase) more;
         times = time-read (g .fits) (st .phase) more;
@@ -385,7 +387,6 @@ module _ (v k : ℕ) (p : Part) (w : Within v k p) where
           let rest : Alike t (tableNext t (recordIn st more) c) p v k (treeNext p v k st (fed c)) cs = rw (s .holding) (later (s .good)) in
           record {
             replies = ap₂ (λ (x : Reply) (xs : List Reply). x ∷ xs) (s .replied) (rest .replies);
-            names = (s .named, rest .names);
             never = rw (s .replied, reply-possible st (fed c)) (rest .never);
             phases = rest .phases;
             times = rest .times;

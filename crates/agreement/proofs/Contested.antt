@@ -1,47 +1,65 @@
--- A goal byte says exactly which variables are contested.
-use Prim.Native.Nat.{ℕ, suc, _<_}
+-- The variable that goal bytes name is the one that the leaves at work do.
+use Prim.Native.Nat.{ℕ, zero, suc}
 use native.Mathlib.Omega.{arith}
 use mathlib.Core.Path.{_≡_, refl, sym, _∙_}
-use mathlib.Core.Bool.{Bool, true, false, cond}
-use mathlib.Core.Logic.{inl, inr}
+use mathlib.Core.Bool.{Bool, true, false, cond, not, _&&_, _||_}
 use mathlib.Core.List.{List, [], _∷_}
 use lib.Dec.{eqb, leb}
-use lib.ListN.{length, getD}
-use borrow.Author.Tests.{eqb-false, leb-true}
-use Rattle.base.specs.Lists.{all}
-use Rattle.base.proofs.Lists.{and-left, fails-of-one, all-first}
+use borrow.Author.Tests.{eqb-true, eq-eqb, ne-eqb, leb-true}
+use Rattle.base.specs.Lists.{all, any, tabulate}
+use Rattle.base.proofs.Lists.{and-left, and-right}
 use Rattle.meaning.specs.declared.Entry.{Entry}
 use Rattle.meaning.specs.Sizes.{maxValue}
-use Rattle.meaning.specs.Cycle.{noGoal, contested, valuesFor, goalByte, goalBytes, Names}
-use Rattle.meaning.proofs.Entries.{length-goals, byte-at}
-use Rattle.agreement.specs.Runs.{Differ, NamesContested}
+use Rattle.meaning.specs.Cycle.{contested, valuesFor, goalByte, goalBytes, lowestContested}
+use Rattle.meaning.proofs.Entries.{any-given}
+use Rattle.agreement.specs.Runs.{givesOther, isContested, lowestAtWork}
 
 abbrev Small : List ℕ → Type 0
 Small xs = all (λ x. leb x maxValue) xs ≡ true
 
--- The byte of a variable is 254 exactly where two of its values differ
-contested-differ : (xs : List ℕ) → Small xs → goalByte xs ≡ contested → Differ xs
-contested-differ [] s h = absurd (let z : _≡_ {A = ℕ} noGoal contested = h in omega arith)
-contested-differ (x ∷ xs) s h = go (all (eqb x) xs) refl h
+-- one of a list fails a test exactly where not all pass it
+any-not : (f : ℕ → Bool) (xs : List ℕ) → any (λ x. not (f x)) xs ≡ not (all f xs)
+any-not f [] = refl
+any-not f (x ∷ xs) = rw (any-not f xs) (go (f x))
   where
-    go : (b : Bool) → all (eqb x) xs ≡ b → cond b x contested ≡ contested → Differ (x ∷ xs)
-    go true e g = absurd (omega (arith, leb-true x maxValue (and-left (leb x maxValue) (all (λ y. leb y maxValue) xs) s)))
-    go false e g =
-        let one : (i : ℕ) × (i < length xs) × (eqb x (getD xs i 0) ≡ false) = fails-of-one (eqb x) xs e in
-        (0, suc (one .0), omega arith, omega (arith, one .1), eqb-false x (getD xs (one .0) 0) (one .2))
+    go : (b : Bool) → (not b || not (all f xs)) ≡ not (b && all f xs)
+    go true = refl
+    go false = refl
 
-differ-contested : (xs : List ℕ) → Differ xs → goalByte xs ≡ contested
-differ-contested [] d = absurd (omega (arith, d .2))
-differ-contested (x ∷ xs) d = go (all (eqb x) xs) refl
+-- where all are equal to x, none passes a test that x fails
+none-passes : (f : ℕ → Bool) (x : ℕ) (xs : List ℕ) → f x ≡ false → all (eqb x) xs ≡ true → any f xs ≡ false
+none-passes f x [] h a = refl
+none-passes f x (y ∷ ys) h a =
+    let e : x ≡ y = eqb-true x y (and-left (eqb x y) (all (eqb x) ys) a) in
+    rw (← e, h) (none-passes f x ys h (and-right (eqb x y) (all (eqb x) ys) a))
+
+-- The byte of a variable is 254 exactly where one of its values differs from another
+byte-contested : (f : ℕ → Bool) (xs : List ℕ) → ((x : ℕ) → f x ≡ not (all (eqb x) xs)) → Small xs → eqb (goalByte xs) contested ≡ any f xs
+byte-contested f [] others s = refl
+byte-contested f (x ∷ xs) others s = go (all (eqb x) xs) refl
   where
-    go : (b : Bool) → all (eqb x) xs ≡ b → cond b x contested ≡ contested
-    go true e = absurd (d .4 (all-first x xs e (d .0) (d .2) ∙ sym (all-first x xs e (d .1) (d .3))))
-    go false e = refl
+    first : (b : Bool) → all (eqb x) xs ≡ b → f x ≡ not b
+    first b e = others x ∙ rw (eq-eqb x x refl, e)
 
--- "An offer names a variable that is contested in the unfolding, or 255 exactly where none is"
-pub names-contested : (n : ℕ) (es : List Entry) → ((v : ℕ) → Small (valuesFor v es)) → (name : ℕ) → Names (goalBytes n es) name → NamesContested n es name
-names-contested n es small name (inl (l, c)) =
-    let h : name < n = omega (arith, length-goals n es) in
-    inl (h, contested-differ (valuesFor name es) (small name) (sym (byte-at n name es h) ∙ c))
-names-contested n es small name (inr (e, none)) =
-    inr (e, λ v h d. none v (omega (arith, length-goals n es)) (byte-at n v es h ∙ differ-contested (valuesFor v es) d))
+    go : (b : Bool) → all (eqb x) xs ≡ b → eqb (cond b x contested) contested ≡ (f x || any f xs)
+    go true e =
+        rw (first true e, none-passes f x xs (first true e) e)
+        (ne-eqb x contested (λ d. omega (arith, leb-true x maxValue (and-left (leb x maxValue) (all (λ y. leb y maxValue) xs) s))))
+    go false e = rw (first false e)
+
+module _ (es : List Entry) (small : (v : ℕ) → Small (valuesFor v es)) where
+  -- so it is exactly where two GOALs at work give the variable different values
+  variable-contested : (v : ℕ) → eqb (goalByte (valuesFor v es)) contested ≡ isContested es v
+  variable-contested v =
+      byte-contested (λ x. any (givesOther v x) es) (valuesFor v es) (λ x. sym (any-given v (λ y. not (eqb x y)) es) ∙ any-not (eqb x) (valuesFor v es)) (small v)
+      ∙ any-given v (λ x. any (givesOther v x) es) es
+
+  lowest-from : (v n : ℕ) → lowestContested v (tabulate (λ u. goalByte (valuesFor u es)) v n) ≡ lowestAtWork es v n
+  unfolding lowestContested lowestAtWork
+  lowest-from v zero = refl
+  lowest-from v (suc n) = rw (variable-contested v, lowest-from (suc v) n)
+
+  -- "comparing two runs includes this name"
+  pub names-alike : (n : ℕ) → lowestContested 0 (goalBytes n es) ≡ lowestAtWork es 0 n
+  unfolding goalBytes
+  names-alike n = lowest-from 0 n

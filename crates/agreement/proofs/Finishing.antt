@@ -14,7 +14,7 @@ use Rattle.agreement.specs.Runs.{Call, offer, settling, Reply, refused, 
 abbrev pub finishingIn : ℕ → List Reply → Option ℕ
 finishingIn n [] = none
 finishingIn n (refused m ∷ xs) = finishingIn n xs
-finishingIn n (goals g ∷ xs) = finishingIn n xs
+finishingIn n (goals g name ∷ xs) = finishingIn n xs
 finishingIn n (running ∷ xs) = finishingIn (n + 1) xs
 finishingIn n (done ∷ xs) = some (n + 1)
 

@@ -1,14 +1,14 @@
 -- Demand 3 for the operations: what their contracts promise, call after call, is what the definitions say, and so what `runs-alike` speaks of.
-use Prim.Native.Nat.{ℕ, zero, suc, _+_, _-_, _≤_, _<_}
+use Prim.Native.Nat.{ℕ, _+_, _-_}
+use native.Mathlib.Nat.{add-sub-cancel-left}
 use native.Mathlib.Omega.{arith}
 use mathlib.Core.Path.{_≡_, refl, sym, ap, ap₂, subst, _∙_}
 use mathlib.Core.Bool.{Bool, true, false, cond, not}
-use mathlib.Core.Logic.{inl, inr}
 use mathlib.Core.Option.{Option, some, Option·some-injective}
 use mathlib.Core.List.{List, [], _∷_, map}
 use lib.Dec.{eqb, leb}
-use lib.ListN.{length, getD}
-use borrow.Author.Tests.{leb-false, le-leb, eqb-true, eqb-false, not-true}
+use lib.ListN.{length}
+use borrow.Author.Tests.{le-leb, eqb-true, not-true}
 use Rattle.base.specs.Lists.{all, flag, bytesAt}
 use Rattle.base.proofs.Stores.{bytes-sets}
 use Rattle.meaning.specs.declared.Form.the-variants.{File, Table}
@@ -17,14 +17,14 @@ use Rattle.meaning.specs.Tree.{Part}
 use Rattle.meaning.specs.Program.{parts, variables, clocks, programRefusal}
 use Rattle.meaning.specs.Table.{tableOf, compiled, compileRefusal, compiledInto}
 use Rattle.meaning.specs.Record.{phaseOf, lastTime, estimateIn, startedIn, startsIn, waiting, finished}
-use Rattle.meaning.specs.Cycle.{contested, Names, rootEnded, settledMarks, beginRefusal, begunInto, offerTests, offerRefusal, offeredGoals, offeredInto, goalsInto, settleTests, settleRefusal, settledInto}
-use Rattle.meaning.specs.Answers.{answered, noVariable}
+use Rattle.meaning.specs.Cycle.{rootEnded, settledMarks, beginRefusal, begunInto, offerTests, offerRefusal, offeredName, goalsInto, settleTests, settleRefusal, settledInto}
+use Rattle.meaning.specs.Answers.{answered, answering}
 use Rattle.meaning.specs.Operations.{Compiled, Begun}
 use Rattle.meaning.proofs.Files.{accepted}
 use Rattle.meaning.proofs.Tables.{table-holds, table-accepted, compiled-is}
-use Rattle.meaning.proofs.Refusals.{compile-accepts, settled-phase, goal-bytes-into}
-use Rattle.agreement.specs.Runs.{Call, offer, settling, Reply, refused, goals, running, done, reply, settledReply, tableReply, tableNext, tableReplies, tableAfter, tableFinishing, State, begin, fed, treeNext, settlingCount, possible, NameAlike, NamesAlike, Alike, Timed}
-use Rattle.agreement.specs.Calls.{tableIn, Made, offerMade, settlingMade, callOf, recordFrom, Promised, AllPromised, replyOf, NameInAnswer, NamesInAnswers, recordAfter, finishingCycle, CallsAlike, OperationsAlike, PromisesKept}
+use Rattle.meaning.proofs.Refusals.{compile-accepts, settled-phase}
+use Rattle.agreement.specs.Runs.{Call, offer, settling, Reply, refused, goals, running, done, reply, settledReply, tableReply, tableNext, tableReplies, tableAfter, tableFinishing, State, begin, settlingCount, possible, Alike, Timed}
+use Rattle.agreement.specs.Calls.{tableIn, Made, offerMade, settlingMade, callOf, recordFrom, Promised, AllPromised, replyOf, recordAfter, finishingCycle, CallsAlike, OperationsAlike}
 use Rattle.agreement.proofs.Agreement.{failing-passes, runs-alike}
 
 -- the numbers of refusals are below those of the other answers
@@ -36,16 +36,18 @@ pub settle-below : (t r est : List ℕ) → leb answered (settleRefusal t r est)
 unfolding settleRefusal
 settle-below t r est = not-true (leb answered (settleRefusal t r est)) (failing-passes (λ n. not (leb answered n)) (settleTests t r est) refl refl)
 
--- What an offer's answer tells, where n is its refusal by the definitions, and what a settling's does, where b says that the root has ended
-offer-reply : (n answer : ℕ) (gs : List ℕ) → ((n ≡ 0 → ⊥) → answer ≡ n) → (n ≡ 0 → answered ≤ answer) → leb answered n ≡ false
-    → cond (leb answered answer) (goals gs) (refused answer) ≡ reply n (goals gs)
-offer-reply n answer gs refuses gives l = go (eqb n 0) refl
+-- What an answer tells, where n is the refusal by the definitions, and what is given otherwise: of an offer a name, of a settling whether the
+-- root has ended
+offer-reply : (n name answer : ℕ) (gs : List ℕ) → answer ≡ answering n name → leb answered n ≡ false
+    → cond (leb answered answer) (goals gs (answer - answered)) (refused answer) ≡ reply n (goals gs name)
+offer-reply n name answer gs a l = rw a (go (eqb n 0) refl)
   where
-    go : (b : Bool) → eqb n 0 ≡ b → cond (leb answered answer) (goals gs) (refused answer) ≡ cond b (goals gs) (refused n)
-    go true e = rw (le-leb answered answer (gives (eqb-true n 0 e)))
-    go false e = rw (refuses (eqb-false n 0 e), l)
+    go : (b : Bool) → eqb n 0 ≡ b
+        → cond (leb answered (cond b (answered + name) n)) (goals gs (cond b (answered + name) n - answered)) (refused (cond b (answered + name) n)) ≡ cond b (goals gs name) (refused n)
+    go true e = rw (le-leb answered (answered + name) (omega arith), add-sub-cancel-left)
+    go false e = rw l
 
-settle-reply : (n phase : ℕ) (b : Bool) → (n ≡ 0 → phase ≡ cond b finished waiting) → leb answered n ≡ false → (answer : ℕ) → answer ≡ cond (eqb n 0) (answered + flag b) n
+settle-reply : (n phase : ℕ) (b : Bool) → (n ≡ 0 → phase ≡ cond b finished waiting) → leb answered n ≡ false → (answer : ℕ) → answer ≡ answering n (flag b)
     → cond (leb answered answer) (cond (eqb answer (answered + 1)) done running) (refused answer) ≡ reply n (settledReply phase)
 settle-reply n phase b ends l answer a = rw a (go (eqb n 0) refl)
   where
@@ -66,29 +68,13 @@ phase-settled t r est h = rw h (settled-phase t r est h)
 made-reply : (t r : List ℕ) (m : Made) → Promised t r m → replyOf (variables t) m ≡ tableReply t r (callOf m)
 made-reply t r (offerMade time buffer answer r' buffer') h =
     rw (h .goals-are)
-    (offer-reply (offerRefusal t r time (length buffer)) answer (bytesAt (goalsInto t r time buffer) 0 (variables t)) (h .refusal-is) (h .answer-follows) (offer-below t r time (length buffer)))
+    (offer-reply (offerRefusal t r time (length buffer)) (offeredName t r time) answer (bytesAt (goalsInto t r time buffer) 0 (variables t)) (h .answer-is) (offer-below t r time (length buffer)))
 made-reply t r (settlingMade est answer r') h =
     settle-reply (settleRefusal t r est) (phaseOf (settledInto t r est)) (rootEnded (settledMarks t r est)) (phase-settled t r est) (settle-below t r est) answer (h .answer-is)
 
 leaves : (t r : List ℕ) (m : Made) → Promised t r m → recordFrom m ≡ tableNext t r (callOf m)
 leaves t r (offerMade time buffer answer r' buffer') h = h .record-is
 leaves t r (settlingMade est answer r') h = h .record-is
-
--- an answer of 256 or more is no refusal
-pub not-refused : (n answer : ℕ) → ((n ≡ 0 → ⊥) → answer ≡ n) → leb answered n ≡ false → answered ≤ answer → n ≡ 0
-not-refused n answer refuses l a = go (eqb n 0) refl
-  where
-    go : (b : Bool) → eqb n 0 ≡ b → n ≡ 0
-    go true e = eqb-true n 0 e
-    go false e = absurd (omega (arith, refuses (eqb-false n 0 e), leb-false answered n l))
-
--- the name in the answer is one that the table's offer may give
-names-answered : (t r : List ℕ) (p : Part) (st : State p) (m : Made) → Promised t r m → NameAlike t r p st (callOf m) → NameInAnswer p (variables t) st m
-names-answered t r p st (offerMade time buffer answer r' buffer') h alike =
-    λ a.
-    let z = not-refused (offerRefusal t r time (length buffer)) answer (h .refusal-is) (offer-below t r time (length buffer)) a in
-    alike z (answer - answered) (rw (goal-bytes-into t r time buffer z .0) (h .names z))
-names-answered t r p st (settlingMade est answer r') h alike = tt
 
 -- A list of calls on one table, which has v variables
 module _ (t : List ℕ) (v : ℕ) (same : variables t ≡ v) where
@@ -112,20 +98,12 @@ module _ (t : List ℕ) (v : ℕ) (same : variables t ≡ v) where
       (finishing-is ms (recordFrom m) (n + settlingCount (replyOf v m)) (h .1)
       ∙ ap₂ (λ (q : List ℕ) (x : Reply). tableFinishing t q (n + settlingCount x) (map callOf ms)) (leaves t r m (h .0)) (made-reply-same r m (h .0)))
 
-  names-are : (p : Part) (k : ℕ) (ms : List Made) (r : List ℕ) (st : State p) → AllPromised t r ms → NamesAlike t r p v k st (map callOf ms) → NamesInAnswers p v k st ms
-  names-are p k [] r st h alike = tt
-  names-are p k (m ∷ ms) r st h alike = (
-    subst (λ (n : ℕ). NameInAnswer p n st m) same (names-answered t r p st m (h .0) (alike .0)),
-    names-are p k ms (recordFrom m) (treeNext p v k st (fed (callOf m))) (h .1) (subst (λ (q : List ℕ). NamesAlike t q p v k (treeNext p v k st (fed (callOf m))) (map callOf ms)) (sym (leaves t r m (h .0))) (alike .1)),
-  )
-
   -- what is so for the table's run is so for the calls that came back as promised
   calls-alike : (r : List ℕ) (p : Part) (k : ℕ) (st : State p) (ms : List Made) → AllPromised t r ms → Alike t r p v k st (map callOf ms) → CallsAlike t r p v k st ms
   calls-alike r p k st ms h alike =
       let after = record-is ms r h in
       record {
         replies = replies-are ms r h ∙ alike .replies;
-        names = names-are p k ms r st h (alike .names);
         never = ap (all possible) (replies-are ms r h) ∙ alike .never;
         phases = ap phaseOf after ∙ alike .phases;
         times = ap lastTime after ∙ alike .times;
@@ -191,49 +169,3 @@ operations-agree f out answer out' tree-is z est r answer' r' b =
     let h : compileRefusal f (length out) ≡ 0 = sym (tree-is .answer-is) ∙ z in
     let e : tableIn f out' ≡ compiled File f = ap (tableIn f) (tree-is .buffer-is) ∙ read-table f out h in
     subst (λ (t : List ℕ). Begun t est r answer' r' → OperationsAlike f t est r answer' r') (sym e) (begun-alike f (compile-accepts f (length out) .0 h .0) est r answer' r') b
-
--- A name that an offer may give is there for all goal bytes: the lowest contested variable, or 255
-some-name : (gs : List ℕ) → (n : ℕ) × Names gs n
-some-name [] = (noVariable, inr (refl, λ v l. absurd (omega arith)))
-some-name (g ∷ gs) = go (eqb g contested) refl (some-name gs)
-  where
-    none-of : (g ≡ contested → ⊥) → ((v : ℕ) → v < length gs → getD gs v 0 ≡ contested → ⊥) → (v : ℕ) → v < length (g ∷ gs) → getD (g ∷ gs) v 0 ≡ contested → ⊥
-    none-of a b zero l = a
-    none-of a b (suc v) l = b v (omega arith)
-
-    go : (b : Bool) → eqb g contested ≡ b → (n : ℕ) × Names gs n → (n : ℕ) × Names (g ∷ gs) n
-    go true e later = (0, inl (omega arith, eqb-true g contested e))
-    go false e (n, inl (l, c)) = (suc n, inl (omega arith, c))
-    go false e (n, inr (a, none)) = (noVariable, inr (refl, none-of (eqb-false g contested e) none))
-
--- an offer that keeps its promise, and then any call that does
-module _ (t r : List ℕ) (time : ℕ) (buffer : List ℕ) where
-  abbrev made : ℕ → Made
-  made answer = offerMade time buffer answer (offeredInto t r time (length buffer)) (goalsInto t r time buffer)
-
-  offer-kept : (b : Bool) → eqb (offerRefusal t r time (length buffer)) 0 ≡ b → (answer : ℕ) × Promised t r (made answer)
-  offer-kept true e =
-      let x = some-name (offeredGoals t r time) in
-      let z = eqb-true (offerRefusal t r time (length buffer)) 0 e in
-      let back : answered + x .0 - answered ≡ x .0 = omega arith in
-      (answered + x .0, record { refusal-is = λ a. absurd (a z); answer-follows = λ a. omega arith; names = λ a. rw back (x .1); record-is = refl; goals-are = refl })
-  offer-kept false e =
-      let z = eqb-false (offerRefusal t r time (length buffer)) 0 e in
-      (offerRefusal t r time (length buffer), record { refusal-is = λ a. refl; answer-follows = λ a. absurd (z a); names = λ a. absurd (z a); record-is = refl; goals-are = refl })
-
-promise-kept : (t r : List ℕ) (c : Call) → (m : Made) × (callOf m ≡ c) × Promised t r m
-promise-kept t r (offer time buffer) =
-    let x = offer-kept t r time buffer (eqb (offerRefusal t r time (length buffer)) 0) refl in
-    (made t r time buffer (x .0), refl, x .1)
-promise-kept t r (settling est) = (
-  settlingMade est (cond (eqb (settleRefusal t r est) 0) (answered + flag (rootEnded (settledMarks t r est))) (settleRefusal t r est)) (settledInto t r est),
-  refl,
-  record { answer-is = refl; record-is = refl },
-)
-
-pub promises-kept : PromisesKept
-promises-kept t r [] = ([], refl, tt)
-promises-kept t r (c ∷ cs) =
-    let x = promise-kept t r c in
-    let later = promises-kept t (recordFrom (x .0)) cs in
-    (x .0 ∷ later .0, ap₂ (λ (d : Call) (ds : List Call). d ∷ ds) (x .1) (later .1), (x .2, later .2))

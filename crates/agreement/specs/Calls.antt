@@ -1,6 +1,6 @@
 -- The run by the operations themselves: calls that were made one after the other, with the answers and the bytes that came back, beside the
 -- unfolding. Of the operations nothing is known here but what their contracts promise.
-use Prim.Native.Nat.{ℕ, _+_, _-_, _≤_}
+use Prim.Native.Nat.{ℕ, _+_, _-_}
 use mathlib.Core.Path.{_≡_}
 use mathlib.Core.Bool.{true, cond}
 use mathlib.Core.Option.{Option, none, some}
@@ -16,7 +16,7 @@ use Rattle.meaning.specs.Record.{phaseOf, lastTime, estimateIn, startedIn, star
 use Rattle.meaning.specs.Answers.{answered, bufferTooShort, estimateNotAllowed}
 use Rattle.meaning.specs.Operations.{Offered, Settled}
 use Rattle.meaning.specs.Cycle.{estimateAllowed}
-use Rattle.agreement.specs.Runs.{Call, offer, settling, Reply, refused, goals, running, done, State, begin, fed, workingOf, offeredState, treeNext, treeReplies, treeAfter, treeFinishing, settlingCount, possible, NamesContested, Timed}
+use Rattle.agreement.specs.Runs.{Call, offer, settling, Reply, refused, goals, running, done, State, begin, treeReplies, treeAfter, treeFinishing, settlingCount, possible, Timed}
 
 -- The table in the buffer that compiling leaves: as many bytes as the table of the file's parts has
 abbrev pub tableIn : List ℕ → List ℕ → List ℕ
@@ -46,19 +46,10 @@ AllPromised t r [] = Unit {0}
 AllPromised t r (m ∷ ms) = Promised t r m × AllPromised t (recordFrom m) ms
 
 -- The reply of a call that was made, by the answer's number and the goal buffer alone: numbers below 256 refuse, else an offer has left its
--- V goal bytes in the buffer, and a settling's 257 is "finished" and 256 "running"
+-- V goal bytes in the buffer and names a variable by 256 and its number, and a settling's 257 is "finished" and 256 "running"
 abbrev pub replyOf : ℕ → Made → Reply
-replyOf v (offerMade time buffer answer r' buffer') = cond (leb answered answer) (goals (bytesAt buffer' 0 v)) (refused answer)
+replyOf v (offerMade time buffer answer r' buffer') = cond (leb answered answer) (goals (bytesAt buffer' 0 v) (answer - answered)) (refused answer)
 replyOf v (settlingMade est answer r') = cond (leb answered answer) (cond (eqb answer (answered + 1)) done running) (refused answer)
-
--- the name in the answer of an offer that is not refused, beside the state in which the unfolding gets this offer
-abbrev pub NameInAnswer : (p : Part) → ℕ → State p → Made → Type 0
-NameInAnswer p v st (offerMade time buffer answer r' buffer') = answered ≤ answer → NamesContested v (workingOf p (offeredState p st time .rest)) (answer - answered)
-NameInAnswer p v st (settlingMade est answer r') = Unit {0}
-
-abbrev pub NamesInAnswers : (p : Part) → ℕ → ℕ → State p → List Made → Type 0
-NamesInAnswers p v k st [] = Unit {0}
-NamesInAnswers p v k st (m ∷ ms) = NameInAnswer p v st m × NamesInAnswers p v k (treeNext p v k st (fed (callOf m))) ms
 
 -- The record that a list of calls comes to
 abbrev pub recordAfter : List ℕ → List Made → List ℕ
@@ -73,7 +64,6 @@ finishingCycle v r n (m ∷ ms) = cond (eqb (phaseOf r) finished) (some n) (fini
 -- The calls made and the unfolding are alike, from a record and a state on: all that `Alike` says, about what came back
 pub record CallsAlike (t r : List ℕ) (p : Part) (v k : ℕ) (st : State p) (ms : List Made) : Type 0 where
   pub replies : map (replyOf v) ms ≡ treeReplies p v k st (map callOf ms)
-  pub names : NamesInAnswers p v k st ms
   pub never : all possible (map (replyOf v) ms) ≡ true
   pub phases : phaseOf (recordAfter r ms) ≡ treeAfter p v k st (map callOf ms) .phase
   pub times : lastTime (recordAfter r ms) ≡ treeAfter p v k st (map callOf ms) .time
@@ -90,7 +80,3 @@ pub record OperationsAlike (f t est r : List ℕ) (answer : ℕ) (r' : List ℕ)
   pub beginning : answer ≡ firstFailing ((estimateNotAllowed, estimateAllowed (variables f) est) ∷ (bufferTooShort, leb recordLength (length r)) ∷ [])
   pub unbegun : (answer ≡ 0 → ⊥) → r' ≡ r
   pub begun : answer ≡ 0 → (ms : List Made) → AllPromised t r' ms → Timed (map callOf ms) → CallsAlike t r' program (variables f) (clocks f) (begin program (clocks f) est) ms
-
--- The promises can be kept: whatever table, record and calls, there are answers and bytes within the contracts
-abbrev pub PromisesKept : Type 0
-PromisesKept = (t r : List ℕ) (cs : List Call) → (ms : List Made) × (map callOf ms ≡ cs) × AllPromised t r ms

@@ -1,22 +1,22 @@
 -- The two runs of demand 3: one program run by its table and by unfolding its tree, over one list of calls.
-use Prim.Native.Nat.{ℕ, _+_, _<_}
+use Prim.Native.Nat.{ℕ, zero, suc, _+_, _<_}
 use mathlib.Core.Path.{_≡_}
-use mathlib.Core.Logic.{_⊎_}
-use mathlib.Core.Bool.{Bool, true, cond, not, _||_}
+use mathlib.Core.Bool.{Bool, true, cond, not, _&&_, _||_}
 use mathlib.Core.Option.{Option, none, some, Option·map}
 use mathlib.Core.List.{List, [], _∷_}
 use lib.Dec.{eqb, leb}
-use lib.ListN.{length, getD, replicate}
-use Rattle.base.specs.Lists.{all, firstFailing, bytesAt}
+use lib.ListN.{length, replicate}
+use Rattle.base.specs.Lists.{all, any, firstFailing, bytesAt}
 use Rattle.meaning.specs.declared.Entry.{Entry}
 use Rattle.meaning.specs.Sizes.{timeLimit}
+use Rattle.meaning.specs.Kinds.{value}
 use Rattle.meaning.specs.Tree.{Part}
 use Rattle.meaning.specs.declared.Form.the-variants.{File}
 use Rattle.meaning.specs.Program.{variables, clocks, treeOf}
 use Rattle.meaning.specs.Table.{compiled}
 use Rattle.meaning.specs.Conditions.{Situation}
 use Rattle.meaning.specs.Record.{phaseOf, lastTime, estimateIn, startedIn, startsIn, recordLength, waiting, offered, finished}
-use Rattle.meaning.specs.Cycle.{beginRefusal, begunInto, Names, valuesFor, goalBytes, clockFlags, clockStarts, offerRefusal, offeredInto, goalsInto, settleRefusal, settledInto, estimateAllowed}
+use Rattle.meaning.specs.Cycle.{beginRefusal, begunInto, givesTo, goalBytes, clockFlags, clockStarts, offerRefusal, offeredName, offeredInto, goalsInto, settleRefusal, settledInto, estimateAllowed}
 use Rattle.meaning.specs.Answers.{bufferTooShort, notATable, recordNotAllowed, wrongPhase, timeBeforeLast, estimateNotAllowed, runFinished, nothingAtWork, noVariable}
 use Rattle.agreement.specs.Unfolding.{Rest, afresh, check, working, settle}
 
@@ -25,10 +25,10 @@ pub data Call : Type 0 where
   offer : ℕ → List ℕ → Call
   settling : List ℕ → Call
 
--- What a call answers: a refusal, an offer's V goal bytes, or whether the run goes on
+-- What a call answers: a refusal, an offer's V goal bytes and the variable that it names, or whether the run goes on
 pub data Reply : Type 0 where
   refused : ℕ → Reply
-  goals : List ℕ → Reply
+  goals : List ℕ → ℕ → Reply
   running done : Reply
 
 abbrev pub reply : ℕ → Reply → Reply
@@ -40,23 +40,25 @@ settledReply phase = cond (eqb phase finished) done running
 
 -- The run by the table: each call gets the table and the record as the last call left it
 abbrev pub tableReply : List ℕ → List ℕ → Call → Reply
-tableReply t r (offer time buffer) = reply (offerRefusal t r time (length buffer)) (goals (bytesAt (goalsInto t r time buffer) 0 (variables t)))
+tableReply t r (offer time buffer) = reply (offerRefusal t r time (length buffer)) (goals (bytesAt (goalsInto t r time buffer) 0 (variables t)) (offeredName t r time))
 tableReply t r (settling est) = reply (settleRefusal t r est) (settledReply (phaseOf (settledInto t r est)))
 
 abbrev pub tableNext : List ℕ → List ℕ → Call → List ℕ
 tableNext t r (offer time buffer) = offeredInto t r time (length buffer)
 tableNext t r (settling est) = settledInto t r est
 
--- "a variable is contested where two of these give it different values": of what the GOALs at work give it, two differ
-abbrev pub Differ : List ℕ → Type 0
-Differ xs = (i : ℕ) × (j : ℕ) × (i < length xs) × (j < length xs) × (getD xs i 0 ≡ getD xs j 0 → ⊥)
+-- "a variable is contested where two of these give it different values": one of the leaves at work gives it a value, and one a value other than that
+abbrev pub givesOther : ℕ → ℕ → Entry → Bool
+givesOther v x e = givesTo v e && not (eqb x (value (e .operand)))
 
-abbrev pub IsContested : List Entry → ℕ → Type 0
-IsContested es v = Differ (valuesFor v es)
+abbrev pub isContested : List Entry → ℕ → Bool
+isContested es v = any (λ e. givesTo v e && any (givesOther v (value (e .operand))) es) es
 
--- a name that an offer may give: a contested variable, or 255 exactly where none is contested
-abbrev pub NamesContested : ℕ → List Entry → ℕ → Type 0
-NamesContested n es name = ((name < n) × IsContested es name) ⊎ ((name ≡ noVariable) × ((v : ℕ) → v < n → IsContested es v → ⊥))
+-- "The offer now names the lowest-numbered contested variable. … comparing two runs includes this name" (document 02, R-1): of the n variables
+-- from v on, by the leaves at work and never by goal bytes; 255 where none is contested
+unfoldable pub lowestAtWork : List Entry → ℕ → ℕ → ℕ
+lowestAtWork es v zero = noVariable
+lowestAtWork es v (suc n) = cond (isContested es v) v (lowestAtWork es (suc v) n)
 
 -- The run by unfolding. "Its state is the phase, last time, estimate and clocks, and what remains of the tree", of which nothing does once it has ended
 pub record State (p : Part) : Type 0 where
@@ -144,7 +146,7 @@ module _ (p : Part) where
 
   -- "Goal bytes follow the offer's rule, over the GOALs that offer in what remains"
   abbrev pub acceptedReply : ℕ → ℕ → State p → Fed → Reply
-  acceptedReply v k st (offering time room) = goals (goalBytes v (workingOf (offeredState st time .rest)))
+  acceptedReply v k st (offering time room) = goals (goalBytes v (workingOf (offeredState st time .rest))) (lowestAtWork (workingOf (offeredState st time .rest)) 0 v)
   acceptedReply v k st (settled est) = settledReply (settledState st k est .phase)
 
   unfoldable pub treeReply : ℕ → ℕ → State p → Fed → Reply
@@ -162,7 +164,7 @@ module _ (p : Part) where
 -- "The finishing cycle is the number of settlings not refused up to the moment at which the phase is first 2"
 abbrev pub settlingCount : Reply → ℕ
 settlingCount (refused n) = 0
-settlingCount (goals g) = 0
+settlingCount (goals g n) = 0
 settlingCount running = 1
 settlingCount done = 1
 
@@ -174,28 +176,16 @@ unfoldable pub treeFinishing : (p : Part) → ℕ → ℕ → State p → ℕ �
 treeFinishing p v k st n [] = cond (eqb (st .phase) finished) (some n) none
 treeFinishing p v k st n (c ∷ cs) = cond (eqb (st .phase) finished) (some n) (treeFinishing p v k (treeNext p v k st (fed c)) (n + settlingCount (treeReply p v k st (fed c))) cs)
 
--- "An offer names a variable that is contested in the unfolding, or 255 exactly where none is": whatever name the table's offer may give
-abbrev pub NameAlike : List ℕ → List ℕ → (p : Part) → State p → Call → Type 0
-NameAlike t r p st (offer time buffer) =
-    offerRefusal t r time (length buffer) ≡ 0
-    → (name : ℕ) → Names (bytesAt (goalsInto t r time buffer) 0 (variables t)) name → NamesContested (variables t) (workingOf p (offeredState p st time .rest)) name
-NameAlike t r p st (settling est) = Unit {0}
-
-abbrev pub NamesAlike : List ℕ → List ℕ → (p : Part) → ℕ → ℕ → State p → List Call → Type 0
-NamesAlike t r p v k st [] = Unit {0}
-NamesAlike t r p v k st (c ∷ cs) = NameAlike t r p st c × NamesAlike t (tableNext t r c) p v k (treeNext p v k st (fed c)) cs
-
 -- the replies of a run never refuse with 9, 10 or 15
 abbrev pub possible : Reply → Bool
 possible (refused n) = not (eqb n notATable || (eqb n recordNotAllowed || eqb n nothingAtWork))
-possible (goals g) = true
+possible (goals g n) = true
 possible running = true
 possible done = true
 
 -- The two runs are alike over a list of calls, from a record and a state on
 pub record Alike (t r : List ℕ) (p : Part) (v k : ℕ) (st : State p) (cs : List Call) : Type 0 where
   pub replies : tableReplies t r cs ≡ treeReplies p v k st cs
-  pub names : NamesAlike t r p v k st cs
   pub never : all possible (tableReplies t r cs) ≡ true
   pub phases : phaseOf (tableAfter t r cs) ≡ treeAfter p v k st cs .phase
   pub times : lastTime (tableAfter t r cs) ≡ treeAfter p v k st cs .time

@@ -1,5 +1,6 @@
 -- The three demands.
-use Prim.Native.Nat.{ℕ, _+_, _≤_}
+use Prim.Native.Nat.{ℕ, _+_, _-_, _≤_}
+use native.Mathlib.Nat.{add-sub-cancel-left}
 use native.Mathlib.Omega.{arith}
 use mathlib.Core.Path.{_≡_, refl, sym, ap, _∙_}
 use mathlib.Core.Logic.{_⊎_, inl, inr, _↔_, Iff·trans}
@@ -18,13 +19,14 @@ use Rattle.meaning.specs.Tree.{Part}
 use Rattle.meaning.specs.Program.{variables, clocks, programTests, programRefusal, Within, fileOf}
 use Rattle.meaning.specs.Table.{compiled, compileTests, compileRefusal, compiledInto, fileIn, isTable, decompileTests, decompileRefusal, decompiledInto}
 use Rattle.meaning.specs.Record.{waiting, finished}
-use Rattle.meaning.specs.Cycle.{estimateAllowed, beginTests, beginRefusal, freshRecord, begunInto, offerTests, offerRefusal, offeredInto, goalsInto, settleTests, settleRefusal, settledMarks, settledInto, rootEnded}
-use Rattle.meaning.specs.Answers.{answered, notATable}
+use Rattle.meaning.specs.Cycle.{estimateAllowed, beginTests, beginRefusal, freshRecord, begunInto, offerTests, offerRefusal, offeredName, offeredInto, goalsInto, settleTests, settleRefusal, settledMarks, settledInto, rootEnded}
+use Rattle.meaning.specs.Answers.{answered, answering, notATable}
+use Rattle.meaning.proofs.Answers.{told-refusal, told-given, told-accepted}
 use Rattle.meaning.proofs.Files.{accepted-file, file-accepted}
-use Rattle.meaning.proofs.Refusals.{compile-first, compile-accepts, goal-bytes-into, offer-refused, goals-refused, settle-refused}
+use Rattle.meaning.proofs.Refusals.{compile-first, compile-accepts, offer-refused, goals-refused, settle-refused}
 use Rattle.agreement.specs.Calls.{tableIn}
 use Rattle.agreement.proofs.Agreement.{failing-passes, runs-alike}
-use Rattle.agreement.proofs.Operations.{offer-below, settle-below, phase-settled, not-refused, read-table, operations-agree, promises-kept}
+use Rattle.agreement.proofs.Operations.{offer-below, settle-below, phase-settled, read-table, operations-agree}
 use Rattle.sentences.specs.Fields.{Bytes}
 use Rattle.sentences.proofs.AllowedRecords.{exactly-allowed}
 use Rattle.sentences.proofs.OneTable.{compiling-lays-down}
@@ -104,14 +106,7 @@ module _ (tests : List (ℕ × Bool)) (numbered : all isRefusal tests ≡ true) 
   answers-into : (new old written : List ℕ) → answer ≡ n → written ≡ cond (eqb n 0) new old → Answers tests answer (written ≡ old) ((answer ≡ 0) × (written ≡ new))
   answers-into new old written a w = answers (λ h. (a, w ∙ rw (ne-eqb n 0 h))) (λ z. (a ∙ z, w ∙ rw z))
 
--- what a settling answers: its refusal's number, else 256 or 257
-module _ (t r est : List ℕ) (answer : ℕ) (a : answer ≡ cond (eqb (settleRefusal t r est) 0) (answered + flag (rootEnded (settledMarks t r est))) (settleRefusal t r est)) where
-  settling-refused : (settleRefusal t r est ≡ 0 → ⊥) → answer ≡ settleRefusal t r est
-  settling-refused h = a ∙ rw (ne-eqb (settleRefusal t r est) 0 h)
-
-  settling-answered : settleRefusal t r est ≡ 0 → answer ≡ answered + flag (rootEnded (settledMarks t r est))
-  settling-answered z = a ∙ rw z
-
+-- the answer of a settling that is not refused
 settling-told : (b : Bool) → answered + flag b ≡ cond b (answered + 1) answered
 settling-told true = refl
 settling-told false = refl
@@ -149,13 +144,13 @@ demand-1 =
       offers =
           λ t r time goals answer r' goals' o.
           answers (offerTests t r time (length goals)) refl (offerRefusal t r time (length goals)) refl answer
-          (λ h. (o .refusal-is h, (o .record-is ∙ offer-refused t r time (length goals) h, o .goals-are ∙ goals-refused t r time goals h)))
-          (λ z. record { answer-follows = o .answer-follows z; names = o .names z; record-is = o .record-is ∙ rw z; goals-are = o .goals-are ∙ rw z });
+          (λ h. (told-refusal _ _ answer (o .answer-is) h, (o .record-is ∙ offer-refused t r time (length goals) h, o .goals-are ∙ goals-refused t r time goals h)))
+          (λ z. (told-given _ _ answer (o .answer-is) z, o .record-is ∙ rw z, o .goals-are ∙ rw z));
       settles =
           λ t r est answer r' s.
           answers (settleTests t r est) refl (settleRefusal t r est) refl answer
-          (λ h. (settling-refused t r est answer (s .answer-is) h, s .record-is ∙ settle-refused t r est h))
-          (λ z. (settling-answered t r est answer (s .answer-is) z ∙ settling-told (rootEnded (settledMarks t r est)), s .record-is ∙ rw z));
+          (λ h. (told-refusal _ _ answer (s .answer-is) h, s .record-is ∙ settle-refused t r est h))
+          (λ z. (told-given _ _ answer (s .answer-is) z ∙ settling-told (rootEnded (settledMarks t r est)), s .record-is ∙ rw z));
     }
 
 -- Demand 2. The first of the tests is that of a table, and no other has its number
@@ -184,8 +179,8 @@ module _ (t : List ℕ) (tests : List (ℕ × Bool)) (first : tests ≡ (notATab
   refuses-or-0 : (answer : ℕ) → answer ≡ firstFailing tests → (answer ≡ notATable) ↔ NoFile t
   refuses-or-0 answer a = refuses answer answer a (λ h. refl) (λ z e. omega (arith, z, e))
 
-  refuses-or-more : (n answer : ℕ) → n ≡ firstFailing tests → ((n ≡ 0 → ⊥) → answer ≡ n) → (n ≡ 0 → answered ≤ answer) → (answer ≡ notATable) ↔ NoFile t
-  refuses-or-more n answer n-is refused done = refuses n answer n-is refused (λ z e. omega (arith, done z, e))
+  refuses-or-more : (given answer : ℕ) → answer ≡ answering (firstFailing tests) given → (answer ≡ notATable) ↔ NoFile t
+  refuses-or-more given answer a = refuses (firstFailing tests) answer refl (told-refusal _ given answer a) (λ z e. omega (arith, told-given _ given answer a z, e))
 
 -- A settling that is not refused: what its answer tells is what the stepping says of the root
 same-phase : (a b : Bool) → cond a finished waiting ≡ cond b finished waiting → a ≡ b
@@ -215,19 +210,20 @@ demand-2 =
       begin-refuses = λ t est r answer r' b. refuses-or-0 t (beginTests t est (length r)) refl refl answer (b .answer-is);
       offer-refuses =
           λ t r time goals answer r' goals' o.
-          refuses-or-more t (offerTests t r time (length goals)) refl refl (offerRefusal t r time (length goals)) answer refl (o .refusal-is) (o .answer-follows);
+          refuses-or-more t (offerTests t r time (length goals)) refl refl (offeredName t r time) answer (o .answer-is);
       settle-refuses =
           λ t r est answer r' s.
-          refuses-or-more t (settleTests t r est) refl refl (settleRefusal t r est) answer refl (settling-refused t r est answer (s .answer-is)) (λ z. rw (settling-answered t r est answer (s .answer-is) z) (omega arith));
+          refuses-or-more t (settleTests t r est) refl refl (flag (rootEnded (settledMarks t r est))) answer (s .answer-is);
       begin-steps = λ t est r answer r' b z. rw (b .record-is) (beginning-steps t est r (sym (b .answer-is) ∙ z));
       offer-steps =
           λ t r time goals answer r' goals' o a fits.
-          let z = not-refused (offerRefusal t r time (length goals)) answer (o .refusal-is) (offer-below t r time (length goals)) a in
-          record { steps = rw (o .record-is, o .goals-are) (offer-steps t r time goals z fits); names = rw (o .goals-are, goal-bytes-into t r time goals z .0) (o .names z) };
+          let z = told-accepted _ _ answer (o .answer-is) (offer-below t r time (length goals)) a in
+          let name : answer - answered ≡ offeredName t r time = ap (λ (n : ℕ). n - answered) (told-given _ _ answer (o .answer-is) z) ∙ add-sub-cancel-left answered (offeredName t r time) in
+          rw (o .record-is, o .goals-are, name) (offer-steps t r time goals z fits);
       settle-steps =
           λ t r est answer r' s a bytes.
-          let z = not-refused (settleRefusal t r est) answer (settling-refused t r est answer (s .answer-is)) (settle-below t r est) a in
-          rw (s .record-is) (settling-stepped t r est answer z bytes (settling-answered t r est answer (s .answer-is) z));
+          let z = told-accepted _ _ answer (s .answer-is) (settle-below t r est) a in
+          rw (s .record-is) (settling-stepped t r est answer z bytes (told-given _ _ answer (s .answer-is) z));
       begin-only = beginning-only;
       offer-only = offer-only;
       settle-only = λ t r est a b x y h. settling-only t r est a b h x y;
@@ -235,4 +231,4 @@ demand-2 =
 
 -- Demand 3
 pub demand-3 : Demand3
-demand-3 = record { runs = runs-alike; operations = operations-agree; kept = promises-kept }
+demand-3 = record { runs = runs-alike; operations = operations-agree }

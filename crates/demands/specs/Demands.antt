@@ -8,18 +8,18 @@ use mathlib.Core.Bool.{Bool, true, false, cond}
 use mathlib.Core.List.{List, [], _∷_, _++_}
 use lib.ListN.{length, getD}
 use lib.Seq.{sets}
-use Rattle.base.specs.Lists.{all, bytesAt}
+use Rattle.base.specs.Lists.{all}
 use Rattle.meaning.specs.declared.Form.the-variants.{File}
 use Rattle.meaning.specs.Sizes.{maxValue, timeLimit}
 use Rattle.meaning.specs.Tree.{Part}
 use Rattle.meaning.specs.Program.{variables, clocks, programTests, programRefusal, Within, fileOf}
 use Rattle.meaning.specs.Table.{compiled, compileTests, fileIn, isTable, decompileTests}
 use Rattle.meaning.specs.Record.{recordAllowed}
-use Rattle.meaning.specs.Cycle.{estimateAllowed, beginTests, freshRecord, Names, offerTests, offeredGoals, offeredRecord, settleTests, settledMarks, settledRecord, rootEnded}
+use Rattle.meaning.specs.Cycle.{estimateAllowed, beginTests, freshRecord, offerTests, offeredGoals, offeredName, offeredRecord, settleTests, settledMarks, settledRecord, rootEnded}
 use Rattle.meaning.specs.Answers.{answered, notATable}
 use Rattle.meaning.specs.Operations.{Compiled, Decompiled, Begun, Offered, Settled}
 use Rattle.agreement.specs.Runs.{Call, Timed, RunsAlike}
-use Rattle.agreement.specs.Calls.{tableIn, OperationsAlike, PromisesKept}
+use Rattle.agreement.specs.Calls.{tableIn, OperationsAlike}
 use Rattle.sentences.specs.Allowed.{AllowedRecord}
 use Rattle.sentences.specs.Fields.{Bytes}
 use Rattle.sentences.specs.Rows.{LaidDown}
@@ -50,13 +50,6 @@ pub record RefusedBy (tests : List (ℕ × Bool)) (answer : ℕ) : Type 0 where
 abbrev pub Answers : List (ℕ × Bool) → ℕ → Type 0 → Type 0 → Type 0
 Answers tests answer Unchanged Result = (RefusedBy tests answer × Unchanged) ⊎ ((all passes tests ≡ true) × Result)
 
--- the result of an offer: 256 and the name of a contested variable, 255 for none, with the record and the goal bytes
-pub record OfferResult (t r : List ℕ) (time : ℕ) (goals : List ℕ) (answer : ℕ) (r' goals' : List ℕ) : Type 0 where
-  pub answer-follows : answered ≤ answer
-  pub names : Names (offeredGoals t r time) (answer - answered)
-  pub record-is : r' ≡ offeredRecord t r time
-  pub goals-are : goals' ≡ sets goals 0 (offeredGoals t r time)
-
 -- "Order: reading 1 to 7, each over all parts, then 8. Back to a file 9, 8. Beginning 9, 13, 8. Offer 9, 10, 14, 11, 12, 8. Settling 9, 10, 14, 11, 13, 15."
 abbrev pub numbers : List (ℕ × Bool) → List ℕ
 numbers [] = []
@@ -85,8 +78,9 @@ pub record Demand1 : Type 0 where
       → Answers (decompileTests t (length out)) answer (out' ≡ out) ((answer ≡ 0) × (out' ≡ sets out 0 (fileIn t)))
   pub begins : (t est r : List ℕ) (answer : ℕ) (r' : List ℕ) → Begun t est r answer r'
       → Answers (beginTests t est (length r)) answer (r' ≡ r) ((answer ≡ 0) × (r' ≡ sets r 0 (freshRecord t est)))
+  -- 256 and the variable that is named: the lowest contested one, 255 for none
   pub offers : (t r : List ℕ) (time : ℕ) (goals : List ℕ) (answer : ℕ) (r' goals' : List ℕ) → Offered t r time goals answer r' goals'
-      → Answers (offerTests t r time (length goals)) answer ((r' ≡ r) × (goals' ≡ goals)) (OfferResult t r time goals answer r' goals')
+      → Answers (offerTests t r time (length goals)) answer ((r' ≡ r) × (goals' ≡ goals)) ((answer ≡ answered + offeredName t r time) × (r' ≡ offeredRecord t r time) × (goals' ≡ sets goals 0 (offeredGoals t r time)))
   -- 257 where the root has ended ("finished"), else 256 ("running")
   pub settles : (t r est : List ℕ) (answer : ℕ) (r' : List ℕ) → Settled t r est answer r'
       → Answers (settleTests t r est) answer (r' ≡ r) ((answer ≡ cond (rootEnded (settledMarks t r est)) (answered + 1) answered) × (r' ≡ settledRecord t r est))
@@ -98,12 +92,7 @@ pub record Demand1 : Type 0 where
 abbrev pub NoFile : List ℕ → Type 0
 NoFile t = (f : List ℕ) → Gives f t → ⊥
 
--- an offer's record and goal bytes follow from the stepping; its answer names one contested variable, or 255 exactly where none is contested
-pub record OfferStepped (t r : List ℕ) (time : ℕ) (goals : List ℕ) (answer : ℕ) (r' goals' : List ℕ) : Type 0 where
-  pub steps : OfferSteps t r time goals r' goals'
-  pub names : Names (bytesAt goals' 0 (variables t)) (answer - answered)
-
--- so does a settling's record; its answer says whether the root has ended: 257 ("finished"), else 256 ("running")
+-- a settling's record follows from the stepping; its answer says whether the root has ended: 257 ("finished"), else 256 ("running")
 pub record SettlingStepped (t r est : List ℕ) (answer : ℕ) (r' : List ℕ) : Type 0 where
   pub steps : SettlingSteps t r est r'
   pub tells : answer ≡ cond (steps .ends 0) (answered + 1) answered
@@ -120,16 +109,18 @@ pub record Demand2 : Type 0 where
   pub offer-refuses : (t r : List ℕ) (time : ℕ) (goals : List ℕ) (answer : ℕ) (r' goals' : List ℕ) → Offered t r time goals answer r' goals'
       → (answer ≡ notATable) ↔ NoFile t
   pub settle-refuses : (t r est : List ℕ) (answer : ℕ) (r' : List ℕ) → Settled t r est answer r' → (answer ≡ notATable) ↔ NoFile t
-  -- each beginning, offer and settling that is not refused is the stepping, where times have 32 bits and a record is made of bytes
+  -- each beginning, offer and settling that is not refused is the stepping, where times have 32 bits and a record is made of bytes; an offer's
+  -- answer is 256 and the name that the stepping gives
   pub begin-steps : (t est r : List ℕ) (answer : ℕ) (r' : List ℕ) → Begun t est r answer r' → answer ≡ 0 → BeginningSteps t est r r'
   pub offer-steps : (t r : List ℕ) (time : ℕ) (goals : List ℕ) (answer : ℕ) (r' goals' : List ℕ) → Offered t r time goals answer r' goals'
-      → answered ≤ answer → time < timeLimit → OfferStepped t r time goals answer r' goals'
+      → answered ≤ answer → time < timeLimit → OfferSteps t r time goals (answer - answered) r' goals'
   pub settle-steps : (t r est : List ℕ) (answer : ℕ) (r' : List ℕ) → Settled t r est answer r'
       → answered ≤ answer → Bytes r → SettlingStepped t r est answer r'
-  -- and the stepping leaves no byte open
+  -- and the stepping leaves no byte and no name open
   pub begin-only : (t est r a b : List ℕ) → BeginningSteps t est r a → BeginningSteps t est r b → Bytes a → Bytes b → a ≡ b
-  pub offer-only : (t r : List ℕ) (time : ℕ) (goals a ga b gb : List ℕ) → OfferSteps t r time goals a ga → OfferSteps t r time goals b gb
-      → isTable t ≡ true → Bytes a → Bytes b → (a ≡ b) × (ga ≡ gb)
+  pub offer-only : (t r : List ℕ) (time : ℕ) (goals : List ℕ) (na : ℕ) (a ga : List ℕ) (nb : ℕ) (b gb : List ℕ)
+      → OfferSteps t r time goals na a ga → OfferSteps t r time goals nb b gb
+      → isTable t ≡ true → Bytes a → Bytes b → (na ≡ nb) × (a ≡ b) × (ga ≡ gb)
   pub settle-only : (t r est a b : List ℕ) → SettlingSteps t r est a → SettlingSteps t r est b → isTable t ≡ true → Bytes a → Bytes b → a ≡ b
 
 -- Demand 3. "Run one program twice from the same first estimate, once stepped by its table and once by unfolding its tree part by part with no
@@ -142,5 +133,3 @@ pub record Demand3 : Type 0 where
   pub operations : (f out : List ℕ) (answer : ℕ) (out' : List ℕ) → Compiled f out answer out' → answer ≡ 0
       → (est r : List ℕ) (answer' : ℕ) (r' : List ℕ) → Begun (tableIn f out') est r answer' r'
       → OperationsAlike f (tableIn f out') est r answer' r'
-  -- and there always are such answers and bytes
-  pub kept : PromisesKept

@@ -13,7 +13,7 @@ use Rattle.meaning.specs.declared.Answer.the-variants.{Done, Refused}
 use Rattle.meaning.specs.declared.SettleAnswer.{SettleAnswer}
 use Rattle.meaning.specs.declared.SettleAnswer.the-variants.{Running, Finished, Refused as SettleRefused}
 use Rattle.meaning.specs.Answers.{answered, refusalNumber, answerNumber, settleNumber}
-use Rattle.meaning.specs.Cycle.{rootEnded, settledMarks, settleRefusal}
+use Rattle.meaning.specs.Cycle.{rootEnded, settledMarks, settleRefusal, settleAnswer}
 use Rattle.meaning.proofs.Answers.{refusal-counts}
 use Rattle.agreement.proofs.Operations.{settle-below}
 use Rattle.desk_dispatch.specs.Counting.{maxCount, more, settledCycles}
@@ -46,7 +46,7 @@ module _ (a : SettleAnswer) (n : ℕ) where
   settle-finished m e h = rw e h
 
 -- an answer of 256 or more is that of a settling that is not refused
-pub settled-count : (t r est : List ℕ) (answer n m : ℕ) → answer ≡ cond (eqb (settleRefusal t r est) 0) (answered + flag (rootEnded (settledMarks t r est))) (settleRefusal t r est)
+pub settled-count : (t r est : List ℕ) (answer n m : ℕ) → answer ≡ settleAnswer t r est
     → m ≡ cond (leb answered answer) (more n) n → m ≡ settledCycles t r est n
 unfolding settledCycles
 settled-count t r est answer n m a e = e ∙ rw a (go (eqb (settleRefusal t r est) 0) (rootEnded (settledMarks t r est)))

@@ -3,10 +3,10 @@ use Prim.Native.Nat.{ℕ, min}
 use mathlib.Core.Path.{_≡_}
 use mathlib.Core.Bool.{Bool, true, false}
 use mathlib.Core.List.{List, []}
-use lib.ListN.{replicate}
+use lib.ListN.{length, replicate}
 use Rattle.base.specs.Lists.{bytesAt}
 use Rattle.meaning.specs.Program.{variables}
-use Rattle.meaning.specs.Operations.{Begun, Offered, Settled}
+use Rattle.meaning.specs.Cycle.{beginRefusal, begunInto, offerAnswer, offeredInto, goalsInto, settleAnswer, settledInto}
 use Rattle.desk_format.specs.Writing.{Written}
 use Rattle.desk_calls.specs.declared.Line.{Line}
 use Rattle.desk_calls.specs.declared.Line.the-variants.{Passed, Begin, Offer, OfferInto, Settle, NotACall}
@@ -18,35 +18,33 @@ use Rattle.desk_dispatch.specs.Counting.{begunCycles, settledCycles}
 abbrev pub maxGoals : ℕ
 maxGoals = 256
 
--- What is written for a call is the text of an answer that the operation promises, for the record that it was given and the one that it leaves
-pub record BeginReported (t est r r' text : List ℕ) : Type 0 where
-  pub answer : ℕ
-  pub made : Begun t est r answer r'
-  pub text-is : text ≡ begunText answer
+-- What is written for a call: the text of its answer
+abbrev pub beginReport : List ℕ → List ℕ → List ℕ → List ℕ
+beginReport t est r = begunText (beginRefusal t est (length r))
 
-pub record OfferReported (t r : List ℕ) (time : ℕ) (goals r' text : List ℕ) : Type 0 where
-  pub answer : ℕ
-  pub goals' : List ℕ
-  pub made : Offered t r time goals answer r' goals'
-  pub text-is : text ≡ offeredText answer (bytesAt goals' 0 (variables t))
+abbrev pub offerReport : List ℕ → List ℕ → ℕ → List ℕ → List ℕ
+offerReport t r time goals = offeredText (offerAnswer t r time (length goals)) (bytesAt (goalsInto t r time goals) 0 (variables t))
 
-pub record SettleReported (t r est r' text : List ℕ) : Type 0 where
-  pub answer : ℕ
-  pub made : Settled t r est answer r'
-  pub text-is : text ≡ settledText answer
-
--- a text that is the given one
-abbrev pub Is : List ℕ → List ℕ → Type 0
-Is a text = text ≡ a
+abbrev pub settleReport : List ℕ → List ℕ → List ℕ → List ℕ
+settleReport t r est = settledText (settleAnswer t r est)
 
 -- the text of line number n. A line that is passed over has none, and one that is no call has the words that say so
-abbrev pub LineReported : List ℕ → List ℕ → ℕ → Line → List ℕ → List ℕ → List ℕ → Type 0
-LineReported t r n Passed est r' text = (r' ≡ r) × Is [] text
-LineReported t r n (Begin k) est r' text = BeginReported t est r r' text
-LineReported t r n (Offer time) est r' text = OfferReported t r time (replicate (variables t) 0) r' text
-LineReported t r n (OfferInto time room) est r' text = OfferReported t r time (replicate (min room maxGoals) 0) r' text
-LineReported t r n (Settle k) est r' text = SettleReported t r est r' text
-LineReported t r n NotACall est r' text = (r' ≡ r) × Is (lineText n) text
+abbrev pub lineReport : List ℕ → List ℕ → ℕ → Line → List ℕ → List ℕ
+lineReport t r n Passed est = []
+lineReport t r n (Begin k) est = beginReport t est r
+lineReport t r n (Offer time) est = offerReport t r time (replicate (variables t) 0)
+lineReport t r n (OfferInto time room) est = offerReport t r time (replicate (min room maxGoals) 0)
+lineReport t r n (Settle k) est = settleReport t r est
+lineReport t r n NotACall est = lineText n
+
+-- the record after it
+abbrev pub recordAt : List ℕ → List ℕ → Line → List ℕ → List ℕ
+recordAt t r Passed est = r
+recordAt t r (Begin k) est = begunInto t est r
+recordAt t r (Offer time) est = offeredInto t r time (variables t)
+recordAt t r (OfferInto time room) est = offeredInto t r time (min room maxGoals)
+recordAt t r (Settle k) est = settledInto t r est
+recordAt t r NotACall est = r
 
 -- the count of cycles after it
 abbrev pub cyclesAt : List ℕ → List ℕ → Line → List ℕ → ℕ → ℕ
@@ -66,10 +64,8 @@ endsRun (OfferInto time room) = false
 endsRun (Settle k) = false
 endsRun NotACall = true
 
--- A turn that writes a text with the property `Tells` into a buffer, from its beginning on
-pub record Turned (Reports : List ℕ → Type 0) (cycles : ℕ) (ends : Bool) (out out' : List ℕ) (turn : Turn) : Type 0 where
-  pub text : List ℕ
-  pub reports : Reports text
+-- A turn: the text that it writes into a buffer, from its beginning on, the count of cycles after it, and whether it ends the run
+pub record Turned (text : List ℕ) (cycles : ℕ) (ends : Bool) (out out' : List ℕ) (turn : Turn) : Type 0 where
   pub written : Written text out 0 out' (turn .length)
   pub cycles-are : turn .cycles ≡ cycles
   pub ends-is : turn .ends ≡ ends

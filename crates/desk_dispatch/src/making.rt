@@ -15,19 +15,21 @@ use run_settle::settle;
 ghost use mathlib.Core.Path.{_≡_};
 ghost use mathlib.Core.Bool.{true, false};
 ghost use Prim.Native.Nat.{_≤_, min};
-ghost use lib.ListN.{replicate};
+ghost use lib.ListN.{length, replicate};
+ghost use Rattle.meaning.specs.Cycle.{begunInto, offeredInto, settledInto};
 ghost use Rattle.desk_answers.specs.Answers.{lineText};
 ghost use Rattle.desk_dispatch.specs.Counting.{begunCycles, settledCycles};
-ghost use Rattle.desk_dispatch.specs.Making.{maxGoals, Is, BeginReported, OfferReported, SettleReported, LineReported, cyclesAt, endsRun, Turned};
+ghost use Rattle.desk_dispatch.specs.Making.{maxGoals, beginReport, offerReport, settleReport, lineReport, recordAt, cyclesAt, endsRun, Turned};
 
 // The longest goal buffer.
 const MAX_GOALS: usize = 256;
 
 // Begins a run.
 fn begin_call(t: &[u8], est: &[u8], r: &mut [u8], cycles: u64, out: &mut [u8]) -> Turn
-    ensures { λ x. ⌜ Turned (BeginReported (now (t .entry)) (now (est .entry)) (now (r .entry)) (now (r .exit)))
+    ensures { λ x. ⌜ Turned (beginReport (now (t .entry)) (now (est .entry)) (now (r .entry)))
         (begunCycles (now (t .entry)) (now (est .entry)) (now (r .entry)) cycles) false (now (out .entry))
         (now (out .exit)) x ⌝ }
+    ensures { λ _. ⌜ now (r .exit) ≡ begunInto (now (t .entry)) (now (est .entry)) (now (r .entry)) ⌝ }
 {
     let answer = begin(t, est, r);
     let n = write_begun(answer, out, 0);
@@ -47,7 +49,8 @@ fn offer_into(
     cycles: u64,
     out: &mut [u8],
 ) -> Turn
-    ensures { λ x. ⌜ Turned (OfferReported (now (t .entry)) (now (r .entry)) time (now (goals .entry)) (now (r .exit))) cycles false (now (out .entry)) (now (out .exit)) x ⌝ }
+    ensures { λ x. ⌜ Turned (offerReport (now (t .entry)) (now (r .entry)) time (now (goals .entry))) cycles false (now (out .entry)) (now (out .exit)) x ⌝ }
+    ensures { λ _. ⌜ now (r .exit) ≡ offeredInto (now (t .entry)) (now (r .entry)) time (length (now (goals .entry))) ⌝ }
 {
     let answer = offer(t, r, time, goals);
     let n = write_offered(answer, goals, variables(t), out, 0);
@@ -61,7 +64,8 @@ fn offer_into(
 // Makes an offer with a goal buffer of `room` bytes.
 fn offer_call(t: &[u8], r: &mut [u8], time: u32, room: usize, cycles: u64, out: &mut [u8]) -> Turn
     requires { ⌜ room ≤ maxGoals ⌝ }
-    ensures { λ x. ⌜ Turned (OfferReported (now (t .entry)) (now (r .entry)) time (replicate room 0) (now (r .exit))) cycles false (now (out .entry)) (now (out .exit)) x ⌝ }
+    ensures { λ x. ⌜ Turned (offerReport (now (t .entry)) (now (r .entry)) time (replicate room 0)) cycles false (now (out .entry)) (now (out .exit)) x ⌝ }
+    ensures { λ _. ⌜ now (r .exit) ≡ offeredInto (now (t .entry)) (now (r .entry)) time room ⌝ }
 {
     let mut goals = [0u8; MAX_GOALS];
     offer_into(t, r, time, &mut goals[..room], cycles, out)
@@ -69,9 +73,10 @@ fn offer_call(t: &[u8], r: &mut [u8], time: u32, room: usize, cycles: u64, out: 
 
 // Settles a cycle.
 fn settle_call(t: &[u8], r: &mut [u8], est: &[u8], cycles: u64, out: &mut [u8]) -> Turn
-    ensures { λ x. ⌜ Turned (SettleReported (now (t .entry)) (now (r .entry)) (now (est .entry)) (now (r .exit)))
+    ensures { λ x. ⌜ Turned (settleReport (now (t .entry)) (now (r .entry)) (now (est .entry)))
         (settledCycles (now (t .entry)) (now (r .entry)) (now (est .entry)) cycles) false (now (out .entry))
         (now (out .exit)) x ⌝ }
+    ensures { λ _. ⌜ now (r .exit) ≡ settledInto (now (t .entry)) (now (r .entry)) (now (est .entry)) ⌝ }
 {
     let answer = settle(t, r, est);
     let n = write_settled(answer, out, 0);
@@ -84,7 +89,7 @@ fn settle_call(t: &[u8], r: &mut [u8], est: &[u8], cycles: u64, out: &mut [u8]) 
 
 // Writes that the line with this number is no call, which ends the run.
 fn no_call(number: u64, cycles: u64, out: &mut [u8]) -> Turn
-    ensures { λ x. ⌜ Turned (Is (lineText number)) cycles true (now (out .entry)) (now (out .exit)) x ⌝ }
+    ensures { λ x. ⌜ Turned (lineText number) cycles true (now (out .entry)) (now (out .exit)) x ⌝ }
 {
     let n = write_line_fault(number, out, 0);
     Turn {
@@ -112,9 +117,10 @@ pub fn make_call(
     est: &[u8],
     out: &mut [u8],
 ) -> Turn
-    ensures { λ y. ⌜ Turned (LineReported (now (t .entry)) (now (r .entry)) number x (now (est .entry))
-        (now (r .exit))) (cyclesAt (now (t .entry)) (now (r .entry)) x (now (est .entry)) cycles) (endsRun x)
-        (now (out .entry)) (now (out .exit)) y ⌝ }
+    ensures { λ y. ⌜ Turned (lineReport (now (t .entry)) (now (r .entry)) number x (now (est .entry)))
+        (cyclesAt (now (t .entry)) (now (r .entry)) x (now (est .entry)) cycles) (endsRun x) (now (out .entry))
+        (now (out .exit)) y ⌝ }
+    ensures { λ _. ⌜ now (r .exit) ≡ recordAt (now (t .entry)) (now (r .entry)) x (now (est .entry)) ⌝ }
 {
     match x {
         Line::Passed => Turn {

@@ -1,27 +1,29 @@
 -- Laws of a line that is answered: its text, and the marked parts under it.
-use Prim.Native.Nat.{ℕ, _+_, _^_, _≤_, _<_}
+use Prim.Native.Nat.{ℕ, _+_, _^_, min, _≤_, _<_}
 use native.Mathlib.Nat.{zero-add}
 use native.Mathlib.Omega.{arith}
 use mathlib.Core.Path.{_≡_, refl, sym, _∙_}
 use mathlib.Core.Bool.{Bool, true, false, not, _&&_}
-use mathlib.Core.List.{List, _++_}
-use lib.ListN.{length, take}
+use mathlib.Core.List.{List, []}
+use lib.ListN.{length, take, replicate}
 use borrow.Author.Tests.{not-true, not-false}
 use Rattle.base.specs.Lists.{bytesAt}
 use Rattle.base.proofs.Stores.{length-bytes}
 use Rattle.meaning.specs.Sizes.{byteValues, numberLimit}
 use Rattle.meaning.specs.Program.{parts, variables}
+use Rattle.meaning.specs.Cycle.{beginRefusal, offerAnswer, goalsInto, settleAnswer}
 use Rattle.desk_format.specs.Writing.{Written}
 use Rattle.desk_format.proofs.Texts.{written-append}
 use Rattle.desk_calls.specs.declared.Line.{Line}
 use Rattle.desk_calls.specs.declared.Line.the-variants.{Passed, Begin, Offer, OfferInto, Settle, NotACall}
 use Rattle.desk_calls.specs.Lines.{bytesOf}
+use Rattle.desk_answers.specs.Answers.{lineText}
 use Rattle.desk_transcript.specs.Transcript.{partsText, maxAnswer}
 use Rattle.desk_transcript.proofs.Lengths.{line-text-fits, begun-text-fits, settled-text-fits, offered-text-fits}
 use Rattle.desk_dispatch.specs.declared.Turn.{Turn}
-use Rattle.desk_dispatch.specs.Making.{OfferReported, LineReported, cyclesAt, endsRun, Turned}
+use Rattle.desk_dispatch.specs.Making.{maxGoals, beginReport, offerReport, settleReport, lineReport, recordAt, cyclesAt, endsRun, Turned}
 use Rattle.desk_rehearsal.specs.Rehearsal.{isCall, partsUnder, Answered, estimateLength, LineParsed, Under}
-use Rattle.desk_rehearsal.proofs.Estimates.{reported-carried, cycles-carried}
+use Rattle.desk_rehearsal.proofs.Estimates.{SameLine, same-line}
 
 -- the parts, where they are not asked for and where they are
 module _ (asked : Bool) (t r out : List ℕ) (turn : Turn) where
@@ -47,29 +49,41 @@ module _ (t r r' : List ℕ) (n : ℕ) (few : parts t < numberLimit) (narrow : v
   call-fits true text h = h
   call-fits false text h = omega arith
 
-  offer-fits : (time : ℕ) (goals text : List ℕ) (asked : Bool) → OfferReported t r time goals r' text → Fits (asked && true) text
-  offer-fits time goals text asked h = call-fits asked text (rw (h .text-is) (offered-text-fits t r' (h .answer) few (bytesAt (h .goals') 0 (variables t)) (rw length-bytes narrow)))
+  offer-fits : (time : ℕ) (goals : List ℕ) (asked : Bool) → Fits (asked && true) (offerReport t r time goals)
+  offer-fits time goals asked =
+      call-fits asked (offerReport t r time goals)
+      (offered-text-fits t r' (offerAnswer t r time (length goals)) few (bytesAt (goalsInto t r time goals) 0 (variables t)) (rw length-bytes narrow))
 
-  reported-fits : (x : Line) (est text : List ℕ) (asked : Bool) → LineReported t r n x est r' text → Fits (asked && isCall x) text
-  reported-fits Passed est text asked h = none-fits asked text (rw (h .1) (omega arith))
-  reported-fits (Begin k) est text asked h = call-fits asked text (rw (h .text-is) (begun-text-fits t r' (h .answer) few))
-  reported-fits (Offer time) est text asked h = offer-fits time _ text asked h
-  reported-fits (OfferInto time room) est text asked h = offer-fits time _ text asked h
-  reported-fits (Settle k) est text asked h = call-fits asked text (rw (h .text-is) (settled-text-fits t r' (h .answer) few))
-  reported-fits NotACall est text asked h = none-fits asked text (rw (h .1) (line-text-fits n))
+  report-fits : (x : Line) (est : List ℕ) (asked : Bool) → Fits (asked && isCall x) (lineReport t r n x est)
+  report-fits Passed est asked = none-fits asked [] (omega arith)
+  report-fits (Begin k) est asked = call-fits asked (beginReport t est r) (begun-text-fits t r' (beginRefusal t est (length r)) few)
+  report-fits (Offer time) est asked = offer-fits time (replicate (variables t) 0) asked
+  report-fits (OfferInto time room) est asked = offer-fits time (replicate (min room maxGoals) 0) asked
+  report-fits (Settle k) est asked =
+      call-fits asked (settleReport t r est) (settled-text-fits t r' (settleAnswer t r est) few)
+  report-fits NotACall est asked = none-fits asked (lineText n) (line-text-fits n)
 
 -- After a line is read: x is the line, its estimate stands at the beginning of `bytes`, and a text has been written for it
 module _ (t r line bytes : List ℕ) (cycles number k : ℕ) (x : Line) (asked b : Bool) (r' out mid : List ℕ) (turn : Turn) (h : LineParsed line bytes x) (k-is : k ≡ estimateLength x) (b-is : b ≡ isCall x)
-    (z : Turned (LineReported t r number x (take k bytes) r') (cyclesAt t r x (take k bytes) cycles) (endsRun x) out mid turn) where
-  reported : LineReported t r number x (bytesOf line) r' (z .text)
-  reported = reported-carried bytes (bytesOf line) t r number r' (z .text) x (h .carried) (rw k-is at (z .reports))
+    (z : Turned (lineReport t r number x (take k bytes)) (cyclesAt t r x (take k bytes) cycles) (endsRun x) out mid turn) (left : r' ≡ recordAt t r x (take k bytes)) where
+  abbrev report : List ℕ
+  report = lineReport t r number x (bytesOf line)
 
-  length-is : turn .length ≡ length (z .text)
-  length-is = z .written .after ∙ zero-add (length (z .text))
+  same : SameLine bytes (bytesOf line) t r number cycles x (take k bytes)
+  same = rw k-is (same-line bytes (bytesOf line) t r number cycles x (h .carried))
+
+  report-written : Written report out 0 mid (turn .length)
+  report-written = rw (same .text-same) at (z .written)
+
+  length-is : turn .length ≡ length report
+  length-is = report-written .after ∙ zero-add (length report)
+
+  after-is : r' ≡ recordAt t r x (bytesOf line)
+  after-is = left ∙ same .record-same
 
   module _ (few : parts t < numberLimit) (narrow : variables t < byteValues) where
     fits : turn .length + length (partsUnder (asked && b) t r') ≤ maxAnswer
-    fits = rw (length-is, b-is) (reported-fits t r r' number few narrow x (bytesOf line) (z .text) asked reported)
+    fits = rw (length-is, b-is) (report-fits t r r' number few narrow x (bytesOf line) asked)
 
     pub answer-room : turn .length + length (partsUnder (asked && b) t r') < 2 ^ 64
     answer-room = omega (arith, fits)
@@ -80,14 +94,17 @@ module _ (t r line bytes : List ℕ) (cycles number k : ℕ) (x : Line) (asked b
 
       line-answered : Answered t r cycles number asked line r' out out' turn'
       line-answered =
-          rw (sym (h .line-is))
-          (record {
-            text = z .text ++ partsUnder (asked && isCall x) t r';
-            reports = record { answer = z .text; reported = reported; text-is = refl };
-            written = written-append (z .text) (partsUnder (asked && isCall x) t r') out mid out' 0 (turn .length) (turn' .length) (z .written) (rw b-is at (u .written));
-            cycles-are = u .cycles-are ∙ z .cycles-are ∙ rw k-is (cycles-carried bytes (bytesOf line) t r cycles x (h .carried));
-            ends-is = u .ends-is ∙ z .ends-is;
-          })
+          let under : List ℕ = partsUnder (asked && isCall x) t (recordAt t r x (bytesOf line)) in
+          record {
+            record-is = rw (sym (h .line-is)) after-is;
+            turned =
+                rw (sym (h .line-is))
+                (record {
+                  written = written-append report under out mid out' 0 (turn .length) (turn' .length) report-written (rw (b-is, after-is) at (u .written));
+                  cycles-are = u .cycles-are ∙ z .cycles-are ∙ same .cycles-same;
+                  ends-is = u .ends-is ∙ z .ends-is;
+                });
+          }
 
       pub answer-made : Answered t r cycles number asked line r' out out' turn' × (turn' .length ≤ maxAnswer)
       answer-made = (line-answered, answer-short)

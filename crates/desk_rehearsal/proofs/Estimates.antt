@@ -10,7 +10,7 @@ use Rattle.desk_calls.specs.declared.Line.{Line}
 use Rattle.desk_calls.specs.declared.Line.the-variants.{Passed, Begin, Offer, OfferInto, Settle, NotACall}
 use Rattle.desk_calls.specs.Lines.{lineOf, bytesOf}
 use Rattle.desk_calls.proofs.Room.{room, begin-number, settle-number, estimate-stored}
-use Rattle.desk_dispatch.specs.Making.{LineReported, cyclesAt}
+use Rattle.desk_dispatch.specs.Making.{lineReport, recordAt, cyclesAt}
 use Rattle.desk_rehearsal.specs.Rehearsal.{maxLine, parsedLine, estimateLength, Carried, LineParsed}
 
 -- a line and the buffer that it is read into
@@ -52,22 +52,19 @@ module _ (bytes est : List ℕ) where
   carried-fits (Settle k) h = h .0
   carried-fits NotACall h = omega arith
 
-  module _ (t r : List ℕ) (n : ℕ) where
-    pub reported-carried : (r' text : List ℕ) (x : Line) → Carried x bytes est → LineReported t r n x (take (estimateLength x) bytes) r' text → LineReported t r n x est r' text
-    reported-carried r' text Passed h reported = reported
-    reported-carried r' text (Begin k) h reported = rw (h .1) at reported
-    reported-carried r' text (Offer time) h reported = reported
-    reported-carried r' text (OfferInto time room) h reported = reported
-    reported-carried r' text (Settle k) h reported = rw (h .1) at reported
-    reported-carried r' text NotACall h reported = reported
+  -- so text, record and count are those of the estimate
+  pub record SameLine (t r : List ℕ) (number cycles : ℕ) (x : Line) (taken : List ℕ) : Type 0 where
+    pub text-same : lineReport t r number x taken ≡ lineReport t r number x est
+    pub record-same : recordAt t r x taken ≡ recordAt t r x est
+    pub cycles-same : cyclesAt t r x taken cycles ≡ cyclesAt t r x est cycles
 
-    pub cycles-carried : (x : Line) → Carried x bytes est → cyclesAt t r x (take (estimateLength x) bytes) n ≡ cyclesAt t r x est n
-    cycles-carried Passed h = refl
-    cycles-carried (Begin k) h = rw (h .1)
-    cycles-carried (Offer time) h = refl
-    cycles-carried (OfferInto time room) h = refl
-    cycles-carried (Settle k) h = rw (h .1)
-    cycles-carried NotACall h = refl
+  pub same-line : (t r : List ℕ) (number cycles : ℕ) (x : Line) → Carried x bytes est → SameLine t r number cycles x (take (estimateLength x) bytes)
+  same-line t r number cycles Passed h = record { text-same = refl; record-same = refl; cycles-same = refl }
+  same-line t r number cycles (Begin k) h = rw (h .1) (record { text-same = refl; record-same = refl; cycles-same = refl })
+  same-line t r number cycles (Offer time) h = record { text-same = refl; record-same = refl; cycles-same = refl }
+  same-line t r number cycles (OfferInto time room) h = record { text-same = refl; record-same = refl; cycles-same = refl }
+  same-line t r number cycles (Settle k) h = rw (h .1) (record { text-same = refl; record-same = refl; cycles-same = refl })
+  same-line t r number cycles NotACall h = record { text-same = refl; record-same = refl; cycles-same = refl }
 
 pub hearing-fits : (line bytes : List ℕ) (x : Line) (k : ℕ) → LineParsed line bytes x → k ≡ estimateLength x → k ≤ length bytes
 hearing-fits line bytes x k h e = omega (arith, carried-fits bytes (bytesOf line) x (h .carried))

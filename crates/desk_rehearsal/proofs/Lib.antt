@@ -3,3 +3,4 @@ pub mod Estimates
 pub mod Answered
 pub mod Opens
 pub mod Finishing
+pub mod Log

@@ -11,7 +11,7 @@ use Rattle.desk_calls.specs.declared.Line.the-variants.{Passed, Begin, Offer, O
 use Rattle.desk_calls.specs.Lines.{lineOf, bytesOf}
 use Rattle.desk_transcript.specs.Transcript.{partsText}
 use Rattle.desk_dispatch.specs.declared.Turn.{Turn}
-use Rattle.desk_dispatch.specs.Making.{LineReported, cyclesAt, endsRun, Turned}
+use Rattle.desk_dispatch.specs.Making.{lineReport, recordAt, cyclesAt, endsRun, Turned}
 
 -- A longer line is no call
 abbrev pub maxLine : ℕ
@@ -33,15 +33,13 @@ abbrev pub partsUnder : Bool → List ℕ → List ℕ → List ℕ
 partsUnder asked t r = cond asked (partsText t r) []
 
 -- the text of a line and, where parts are asked for, the line of the marked parts under it
-pub record WithParts (t r : List ℕ) (number : ℕ) (line : Line) (est : List ℕ) (asked : Bool) (r' text : List ℕ) : Type 0 where
-  pub answer : List ℕ
-  pub reported : LineReported t r number line est r' answer
-  pub text-is : text ≡ answer ++ partsUnder (asked && isCall line) t r'
+abbrev pub answerText : List ℕ → List ℕ → ℕ → Bool → Line → List ℕ → List ℕ
+answerText t r number asked line est = lineReport t r number line est ++ partsUnder (asked && isCall line) t (recordAt t r line est)
 
--- A line, and what is written when it is answered
-abbrev pub Answered : List ℕ → List ℕ → ℕ → ℕ → Bool → List ℕ → List ℕ → List ℕ → List ℕ → Turn → Type 0
-Answered t r cycles number asked line r' out out' turn =
-    Turned (WithParts t r number (parsedLine line) (bytesOf line) asked r') (cyclesAt t r (parsedLine line) (bytesOf line) cycles) (endsRun (parsedLine line)) out out' turn
+-- A line that is answered: the record after it, and what is written
+pub record Answered (t r : List ℕ) (cycles number : ℕ) (asked : Bool) (line r' out out' : List ℕ) (turn : Turn) : Type 0 where
+  pub record-is : r' ≡ recordAt t r (parsedLine line) (bytesOf line)
+  pub turned : Turned (answerText t r number asked (parsedLine line) (bytesOf line)) (cyclesAt t r (parsedLine line) (bytesOf line) cycles) (endsRun (parsedLine line)) out out' turn
 
 -- The number of bytes of a line's estimate, and that they stand at the beginning of a buffer
 abbrev pub estimateLength : Line → ℕ

@@ -1,12 +1,12 @@
 -- The numbers of refusals, and of the answers that are none.
-use Prim.Native.Nat.{ℕ, _-_, _<_}
+use Prim.Native.Nat.{ℕ, _+_, _-_, _<_, _≤_}
 use mathlib.Core.Path.{_≡_, refl, sym, ap, _∙_}
-use mathlib.Core.Bool.{Bool, true}
+use mathlib.Core.Bool.{Bool, true, false}
 use mathlib.Core.List.{List, [], _∷_, _++_}
 use native.Mathlib.Omega.{arith}
-use lib.Dec.{leb}
+use lib.Dec.{eqb, leb}
 use lib.ListN.{getD}
-use borrow.Author.Tests.{ltb-true, ne-eqb}
+use borrow.Author.Tests.{ltb-true, leb-false, eqb-true, eqb-false, ne-eqb}
 use Rattle.base.specs.Lists.{all, firstFailing}
 use Rattle.base.proofs.Lists.{fails-append}
 use Rattle.meaning.specs.declared.Refusal.{Refusal}
@@ -18,7 +18,7 @@ use Rattle.meaning.specs.declared.OfferAnswer.the-variants.{Agreed, Cont
 use Rattle.meaning.specs.declared.SettleAnswer.{SettleAnswer}
 use Rattle.meaning.specs.declared.SettleAnswer.the-variants.{Running, Finished, Refused as SettleRefused}
 use Rattle.meaning.specs.Sizes.{maxVariables}
-use Rattle.meaning.specs.Answers.{refusalNumber, answerNumber, answered, offerNumber, oneCase, settleNumber}
+use Rattle.meaning.specs.Answers.{refusalNumber, answerNumber, answered, answering, offerNumber, oneCase, settleNumber}
 
 -- a refusal's number is not 0, and is below those of the other answers
 pub refusal-counts : (r : Refusal) → (0 < refusalNumber r) × (refusalNumber r < answered)
@@ -119,6 +119,22 @@ not-refused a n e d = sym e ∙ ap answerNumber d
 
 pub is-refused : (a : Answer) (r : Refusal) (n : ℕ) → answerNumber a ≡ n → a ≡ Refused r → n ≡ 0 → ⊥
 is-refused a r n e d z = refusal-positive r (ap answerNumber (sym d) ∙ e ∙ z)
+
+-- The number of an answer that gives something: refused, it is the refusal's; else 256 and what is given
+module _ (n given answer : ℕ) (a : answer ≡ answering n given) where
+  pub told-refusal : (n ≡ 0 → ⊥) → answer ≡ n
+  told-refusal h = a ∙ rw (ne-eqb n 0 h)
+
+  pub told-given : n ≡ 0 → answer ≡ answered + given
+  told-given z = a ∙ rw z
+
+  -- an answer of 256 or more is no refusal
+  pub told-accepted : leb answered n ≡ false → answered ≤ answer → n ≡ 0
+  told-accepted l h = go (eqb n 0) refl
+    where
+      go : (b : Bool) → eqb n 0 ≡ b → n ≡ 0
+      go true e = eqb-true n 0 e
+      go false e = absurd (omega (arith, told-refusal (eqb-false n 0 e), leb-false answered n l))
 
 -- An answer decided by the first of two lists of tests: a refusal stays, and otherwise the second list decides
 module _ (xs ys : List (ℕ × Bool)) (numbered : all (λ t. leb 1 (t .0)) xs ≡ true) (a : Answer) (a-is : answerNumber a ≡ firstFailing xs) where

@@ -12,7 +12,7 @@ use Rattle.meaning.specs.Program.{sizesAllowed, entries, entryKnown, ent
 use Rattle.meaning.specs.Table.{nextOf, block, tableOf, compiled, fileIn, isTable, compileRefusal, compiledInto, decompileRefusal, decompiledInto}
 use Rattle.meaning.specs.Conditions.{outcome, reached, satisfied, violated}
 use Rattle.meaning.specs.Record.{recordBytes, restZero, valuesAllowed, clockAllowed, clocksAllowed, markedChildren, childrenAllowed, partsAllowed, rootAllowed, recordAllowed}
-use Rattle.meaning.specs.Cycle.{beginsIn, initialMarksFrom, initialMarks, checkedFrom, leavesFrom, valuesFor, goalBytes, transition, applied, settledFrom, estimateAllowed, freshRecord, beginRefusal, begunInto, offerRefusal, offeredInto, goalsInto, worksFrom, settleRefusal, settledInto}
+use Rattle.meaning.specs.Cycle.{beginsIn, initialMarksFrom, initialMarks, checkedFrom, leavesFrom, valuesFor, goalBytes, lowestContested, transition, applied, settledFrom, estimateAllowed, freshRecord, beginRefusal, begunInto, offerRefusal, offeredInto, goalsInto, worksFrom, settleRefusal, settledInto}
 
 -- A row: what is computed, and what it comes to
 infix 70 _gets_
@@ -56,7 +56,7 @@ unfolding kindOf recordBytes restZero valuesAllowed clockAllowed clocksAllowed m
 allowed t r = recordAllowed t r
 
 unfoldable pub offer : List ℕ → List ℕ → ℕ → ℕ → ℕ
-unfolding begin allowed outcome violated checkedFrom leavesFrom valuesFor goalBytes offerRefusal offeredInto goalsInto
+unfolding begin allowed outcome violated checkedFrom leavesFrom valuesFor goalBytes lowestContested offerRefusal offeredInto goalsInto
 offer t r time room = offerRefusal t r time room
 
 unfoldable pub settle : List ℕ → List ℕ → List ℕ → ℕ

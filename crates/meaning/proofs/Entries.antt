@@ -1,13 +1,14 @@
 -- What the entries of a table satisfy, and the goal bytes that they give.
 use Prim.Native.Nat.{ℕ, _≤_, _<_}
 use native.Mathlib.Nat.{zero-add}
-use mathlib.Core.Path.{_≡_, ap, _∙_}
-use mathlib.Core.Bool.{true, _&&_}
+use mathlib.Core.Path.{_≡_, refl, ap, _∙_}
+use mathlib.Core.Bool.{Bool, true, false, cond, _&&_, _||_}
 use mathlib.Core.Logic.{_⊎_, inl, inr}
-use mathlib.Core.List.{List}
+use mathlib.Core.List.{List, [], _∷_, _++_}
 use lib.Dec.{eqb, leb, ltb}
 use lib.ListN.{length, getD}
 use borrow.Author.Tests.{eqb-true, leb-true, ltb-true}
+use Rattle.base.specs.Lists.{any}
 use Rattle.base.proofs.Lists.{and-left, and-right, length-tabulate, getD-tabulate, each-tabulated}
 use Rattle.meaning.specs.declared.Operand.{Operand}
 use Rattle.meaning.specs.declared.Entry.{Entry}
@@ -16,7 +17,7 @@ use Rattle.meaning.specs.Sizes.{maxValue}
 use Rattle.meaning.specs.Kinds.{GOAL, START, kindOf, numberOf, value, testOf, testAllowed, conditionAllowed, goalAllowed, startAllowed, operandAllowed}
 use Rattle.meaning.specs.Program.{parts, variables, clocks, entryAt, entries, entryAllowed}
 use Rattle.meaning.specs.Table.{isTable}
-use Rattle.meaning.specs.Cycle.{isKind, valuesFor, goalByte, goalBytes}
+use Rattle.meaning.specs.Cycle.{isKind, givesTo, valuesFor, goalByte, goalBytes}
 use Rattle.meaning.proofs.Tables.{table-held}
 
 -- each entry of a table is allowed
@@ -65,6 +66,16 @@ module _ (v k : ℕ) (o : Operand) (a : conditionAllowed v k o ≡ true) where
   unfolding conditionAllowed testOf testAllowed
   clock-tested (inl h) = ltb-true (o .b1) k (rw h at a)
   clock-tested (inr h) = ltb-true (o .b1) k (rw h at a)
+
+-- some value that is given to a variable passes a test exactly where some entry gives it one that does
+pub any-given : (v : ℕ) (f : ℕ → Bool) (es : List Entry) → any f (valuesFor v es) ≡ any (λ e. givesTo v e && f (value (e .operand))) es
+unfolding valuesFor
+any-given v f [] = refl
+any-given v f (e ∷ es) = rw (← (any-given v f es)) (go (givesTo v e))
+  where
+    go : (b : Bool) → any f (cond b (value (e .operand) ∷ []) [] ++ valuesFor v es) ≡ ((b && f (value (e .operand))) || any f (valuesFor v es))
+    go true = refl
+    go false = refl
 
 -- one goal byte a variable
 pub length-goals : (v : ℕ) (es : List Entry) → length (goalBytes v es) ≡ v

@@ -1,5 +1,5 @@
--- Every byte that a call writes, and those that it does not touch: a whole run record, goal buffers, a table and a file; and which records are
--- allowed, each bound from both sides.
+-- Every byte that a call writes, and those that it does not touch: a whole run record, goal buffers, a table and a file; which variable an offer
+-- names; and which records are allowed, each bound from both sides.
 use Prim.Native.Nat.{ℕ}
 use mathlib.Core.Path.{refl}
 use mathlib.Core.Bool.{Bool, true, false}
@@ -9,7 +9,7 @@ use lib.Seq.{sets}
 use Rattle.meaning.specs.declared.Form.the-variants.{File}
 use Rattle.meaning.specs.Record.{recordBytes}
 use Rattle.meaning.specs.Table.{compiled, compiledInto, decompiledInto}
-use Rattle.meaning.specs.Cycle.{freshRecord, begunInto, offeredInto, goalsInto, settledInto}
+use Rattle.meaning.specs.Cycle.{lowestContested, freshRecord, begunInto, offeredName, offeredInto, goalsInto, settledInto}
 use Rattle.meaning.proofs.Computed.{_gets_, Holds, file, decompile, allowed, offer, settle}
 
 -- PAR(START 1, GOAL 0=250), for 2 variables and 2 clocks
@@ -142,6 +142,25 @@ pub goal-buffers : Holds
     ∷ [])
 unfolding offer
 goal-buffers = refl
+
+-- "The offer now names the lowest-numbered contested variable" (document 02, R-1), "or 255 exactly where none is contested": by goal bytes; and
+-- by an offer of the program above as it begins, and where its parts 1 to 3 have ended
+abbrev merges : ℕ → List ℕ
+merges m = recordBytes 0 0 (replicate 5 0) [] [] (1 ∷ m ∷ m ∷ m ∷ replicate 6 1)
+
+pub offer-names : Holds
+    (lowestContested 0 [] gets 255
+    ∷ lowestContested 0 (254 ∷ []) gets 0
+    ∷ lowestContested 0 (255 ∷ 0 ∷ 250 ∷ []) gets 255
+    ∷ lowestContested 0 (1 ∷ 255 ∷ 254 ∷ 254 ∷ 2 ∷ []) gets 2
+    ∷ lowestContested 0 (replicate 32 254) gets 0
+    ∷ lowestContested 0 (replicate 31 255 ++ (254 ∷ [])) gets 31
+    ∷ offeredName (compiled File merging) (merges 1) 0 gets 0
+    ∷ offeredName (compiled File merging) (merges 0) 0 gets 2
+    ∷ offeredName pairTable begun 0 gets 255
+    ∷ [])
+unfolding offer
+offer-names = refl
 
 -- Whether a record of the first program is allowed, at the last time 10: by its estimate, by its clocks' flags and starts, by its phase and marks
 abbrev estimated : List ℕ → Bool

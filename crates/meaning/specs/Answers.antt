@@ -1,7 +1,7 @@
 -- Refusal by refusal: the number that document 01 gives each answer.
 use Prim.Native.Nat.{ℕ, _+_}
-use mathlib.Core.Bool.{Bool, true}
-use lib.Dec.{ltb}
+use mathlib.Core.Bool.{Bool, true, cond}
+use lib.Dec.{eqb, ltb}
 use Rattle.meaning.specs.declared.Refusal.{Refusal}
 use Rattle.meaning.specs.declared.Refusal.the-variants.{FileTooShort, SizeOutOfRange, WrongLength, UnknownKind, OperandNotAllowed, NotOneTree, TooDeep, BufferTooShort, NotATable, RecordNotAllowed, WrongPhase, TimeBeforeLast, EstimateNotAllowed, RunFinished, NothingAtWork}
 use Rattle.meaning.specs.declared.Answer.{Answer}
@@ -94,10 +94,14 @@ abbrev pub answerNumber : Answer → ℕ
 answerNumber Done = 0
 answerNumber (Refused r) = refusalNumber r
 
--- Numbers from here on are answers that are no refusal: of an offer 256 and the name of a contested variable, 255 for none;
+-- Numbers from here on are answers that are no refusal: of an offer 256 and the lowest contested variable, 255 for none;
 -- of a settling 256 for "running" and 257 for "finished"
 abbrev pub answered : ℕ
 answered = 256
+
+-- the number that an offer or a settling answers: the refusal's, or 256 and what is given (the name of a variable; 1 where the root has ended)
+abbrev pub answering : ℕ → ℕ → ℕ
+answering refusal given = cond (eqb refusal 0) (answered + given) refusal
 
 -- "or 255 exactly where none is contested": the name in an offer's answer that names no variable
 abbrev pub noVariable : ℕ

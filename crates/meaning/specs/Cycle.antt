@@ -1,8 +1,6 @@
 -- Beginning a run, and one cycle over the table: an offer, then a settling.
-use Prim.Native.Nat.{ℕ, zero, suc, _-_, _<_}
-use mathlib.Core.Path.{_≡_}
+use Prim.Native.Nat.{ℕ, zero, suc, _-_}
 use mathlib.Core.Bool.{Bool, true, false, cond, not, _&&_, _||_}
-use mathlib.Core.Logic.{_⊎_}
 use mathlib.Core.List.{List, [], _∷_, _++_}
 use lib.Dec.{eqb, leb}
 use lib.ListN.{length, getD, take, set, replicate}
@@ -19,7 +17,7 @@ use Rattle.meaning.specs.Program.{variables, clocks, entryAt}
 use Rattle.meaning.specs.Table.{kindAt, operandOf, endAt, parentAt, nextAt, insideOf, isTable}
 use Rattle.meaning.specs.Conditions.{Situation, reached, satisfied, violated}
 use Rattle.meaning.specs.Record.{timePlace, estimatePlace, startedPlace, startsPlace, marksPlace, recordLength, phaseOf, lastTime, estimateIn, startedIn, startsIn, marksIn, waiting, offered, finished, isMark, recordBytes, recordAllowed}
-use Rattle.meaning.specs.Answers.{bufferTooShort, notATable, recordNotAllowed, wrongPhase, timeBeforeLast, estimateNotAllowed, runFinished, nothingAtWork, noVariable}
+use Rattle.meaning.specs.Answers.{bufferTooShort, notATable, recordNotAllowed, wrongPhase, timeBeforeLast, estimateNotAllowed, runFinished, nothingAtWork, answering, noVariable}
 
 -- "To initialise is to mark the part and initialise SEQ's first child, all of PAR's, MAINTAIN's and REPEAT's child, and none of CHOICE's":
 -- whether part p, inside part q of a kind, is initialised with it
@@ -75,9 +73,13 @@ noGoal = 255
 abbrev pub contested : ℕ
 contested = 254
 
+-- an entry is a GOAL that names variable v; the values that entries give it
+abbrev pub givesTo : ℕ → Entry → Bool
+givesTo v e = isKind GOAL e && eqb (e .operand .b1) v
+
 unfoldable pub valuesFor : ℕ → List Entry → List ℕ
 valuesFor v [] = []
-valuesFor v (e ∷ es) = cond (isKind GOAL e && eqb (e .operand .b1) v) (value (e .operand) ∷ []) [] ++ valuesFor v es
+valuesFor v (e ∷ es) = cond (givesTo v e) (value (e .operand) ∷ []) [] ++ valuesFor v es
 
 abbrev pub goalByte : List ℕ → ℕ
 goalByte [] = noGoal
@@ -86,9 +88,11 @@ goalByte (x ∷ xs) = cond (all (eqb x) xs) x contested
 unfoldable pub goalBytes : ℕ → List Entry → List ℕ
 goalBytes n es = tabulate (λ v. goalByte (valuesFor v es)) 0 n
 
--- "one contested variable, any of them, or 255 exactly where none is contested"
-abbrev pub Names : List ℕ → ℕ → Type 0
-Names goals n = ((n < length goals) × (getD goals n 0 ≡ contested)) ⊎ ((n ≡ noVariable) × ((v : ℕ) → v < length goals → getD goals v 0 ≡ contested → ⊥))
+-- "The offer now names the lowest-numbered contested variable" (document 02, R-1), "or 255 exactly where none is contested": of the variables
+-- from v on, whose goal bytes these are
+unfoldable pub lowestContested : ℕ → List ℕ → ℕ
+lowestContested v [] = noVariable
+lowestContested v (b ∷ bs) = cond (eqb b contested) v (lowestContested (suc v) bs)
 
 -- Settling. What becomes of a marked part (`Transition`)
 abbrev pub endsIf : Bool → Transition
@@ -178,15 +182,22 @@ offerTests t r time room =
 unfoldable pub offerRefusal : List ℕ → List ℕ → ℕ → ℕ → ℕ
 offerRefusal t r time room = firstFailing (offerTests t r time room)
 
--- the marks after an offer, what it offers, and what stands in record and goal buffer afterwards
+-- the marks after an offer, what it offers, which variable it names, and what stands in record and goal buffer afterwards
 abbrev pub checkedMarks : List ℕ → List ℕ → ℕ → List ℕ
 checkedMarks t r time = checkedFrom t (situation t r (estimateIn t r) time) 0 (marksIn t r) 0
 
 abbrev pub offeredGoals : List ℕ → List ℕ → ℕ → List ℕ
 offeredGoals t r time = goalBytes (variables t) (leavesFrom t 0 (checkedMarks t r time))
 
+abbrev pub offeredName : List ℕ → List ℕ → ℕ → ℕ
+offeredName t r time = lowestContested 0 (offeredGoals t r time)
+
 abbrev pub offeredRecord : List ℕ → List ℕ → ℕ → List ℕ
 offeredRecord t r time = sets (sets (set r 0 offered) timePlace (littleEndian timeWidth time)) marksPlace (checkedMarks t r time)
+
+-- the number that it answers
+abbrev pub offerAnswer : List ℕ → List ℕ → ℕ → ℕ → ℕ
+offerAnswer t r time room = answering (offerRefusal t r time room) (offeredName t r time)
 
 unfoldable pub offeredInto : List ℕ → List ℕ → ℕ → ℕ → List ℕ
 offeredInto t r time room = cond (eqb (offerRefusal t r time room) 0) (offeredRecord t r time) r
@@ -243,6 +254,10 @@ settledRecord t r est =
     (flat (littleEndian timeWidth) (settledStarts t r)))
     marksPlace
     (settledMarks t r est)
+
+-- the number that a settling answers: "finished" or "running", where it is not refused
+abbrev pub settleAnswer : List ℕ → List ℕ → List ℕ → ℕ
+settleAnswer t r est = answering (settleRefusal t r est) (flag (rootEnded (settledMarks t r est)))
 
 unfoldable pub settledInto : List ℕ → List ℕ → List ℕ → List ℕ
 settledInto t r est = cond (eqb (settleRefusal t r est) 0) (settledRecord t r est) r

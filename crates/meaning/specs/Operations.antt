@@ -1,14 +1,10 @@
 -- What the operations promise: the answer's number and every byte of what they write, for refused calls too.
-use Prim.Native.Nat.{ℕ, _+_, _-_, _≤_}
+use Prim.Native.Nat.{ℕ}
 use mathlib.Core.Path.{_≡_}
-use mathlib.Core.Bool.{cond}
 use mathlib.Core.List.{List}
-use lib.Dec.{eqb}
 use lib.ListN.{length}
-use Rattle.base.specs.Lists.{flag}
 use Rattle.meaning.specs.Table.{compileRefusal, compiledInto, decompileRefusal, decompiledInto}
-use Rattle.meaning.specs.Answers.{answered}
-use Rattle.meaning.specs.Cycle.{beginRefusal, begunInto, Names, offerRefusal, offeredGoals, offeredInto, goalsInto, rootEnded, settledMarks, settleRefusal, settledInto}
+use Rattle.meaning.specs.Cycle.{beginRefusal, begunInto, offerAnswer, offeredInto, goalsInto, settleAnswer, settledInto}
 
 -- Compiling, of a file and an output buffer, that answers a number and leaves a buffer
 pub record Compiled (f out : List ℕ) (answer : ℕ) (out' : List ℕ) : Type 0 where
@@ -25,15 +21,13 @@ pub record Begun (t est r : List ℕ) (answer : ℕ) (r' : List ℕ) : Type 0 wh
   pub answer-is : answer ≡ beginRefusal t est (length r)
   pub record-is : r' ≡ begunInto t est r
 
--- An offer, of a table, a record, a time and a goal buffer. The name of a contested variable is free within `Names`
+-- An offer, of a table, a record, a time and a goal buffer. "The freedom named in document 01 goes" (document 02, R-1): its answer is an equation too
 pub record Offered (t r : List ℕ) (time : ℕ) (goals : List ℕ) (answer : ℕ) (r' goals' : List ℕ) : Type 0 where
-  pub refusal-is : (offerRefusal t r time (length goals) ≡ 0 → ⊥) → answer ≡ offerRefusal t r time (length goals)
-  pub answer-follows : offerRefusal t r time (length goals) ≡ 0 → answered ≤ answer
-  pub names : offerRefusal t r time (length goals) ≡ 0 → Names (offeredGoals t r time) (answer - answered)
+  pub answer-is : answer ≡ offerAnswer t r time (length goals)
   pub record-is : r' ≡ offeredInto t r time (length goals)
   pub goals-are : goals' ≡ goalsInto t r time goals
 
 -- A settling, of a table, a record and an estimate
 pub record Settled (t r est : List ℕ) (answer : ℕ) (r' : List ℕ) : Type 0 where
-  pub answer-is : answer ≡ cond (eqb (settleRefusal t r est) 0) (answered + flag (rootEnded (settledMarks t r est))) (settleRefusal t r est)
+  pub answer-is : answer ≡ settleAnswer t r est
   pub record-is : r' ≡ settledInto t r est

@@ -80,7 +80,7 @@ pub enum Answer {
     Refused(Refusal),
 }
 
-// What an offer answers: a refusal, that no variable is contested, or one that is.
+// What an offer answers: a refusal, that no variable is contested, or the lowest that is.
 pub enum OfferAnswer {
     Refused(Refusal),
     Agreed,
@@ -127,8 +127,7 @@ pub fn answer_number(a: Answer) -> u32
     }
 }
 
-// An offer's answer as a number: the refusal's, or 256 and the contested variable that it names, 255
-// for none.
+// An offer's answer as a number: the refusal's, or 256 and the lowest contested variable, 255 for none.
 pub fn offer_number(a: OfferAnswer) -> u32
     ensures { λ n. ⌜ n ≡ offerNumber a ⌝ }
 {

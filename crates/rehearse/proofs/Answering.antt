@@ -120,7 +120,7 @@ and-none true = refl
 and-none false = refl
 
 long-ends : (t r : List ℕ) (asked : Bool) (line : List ℕ) (s : Stand) (from : ℕ) (r' : List ℕ) (e : Stand) → maxLine < length line → Goes t r asked line s from r' e → e .going ≡ false
-long-ends t r asked line s from r' e h g = ap (λ (x : Stand). x .going) (g .stand-is) ∙ rw (g .answered .ends-is, too-long line h) (and-none (g .printed))
+long-ends t r asked line s from r' e h g = ap (λ (x : Stand). x .going) (g .stand-is) ∙ rw (g .answered .turned .ends-is, too-long line h) (and-none (g .printed))
 
 -- So far: what came is the lines that were answered, each with its line feed, and what is still pending
 record SoFar (came : List ℕ) (lines : List (List ℕ)) (rest : List ℕ) : Type 0 where

@@ -1,5 +1,5 @@
 -- Goal bytes made by one pass over the marked leaves, as the code makes them.
-use Prim.Native.Nat.{ℕ, suc}
+use Prim.Native.Nat.{ℕ}
 use mathlib.Core.Bool.{cond, _&&_}
 use mathlib.Core.List.{List, [], _∷_}
 use lib.Dec.{eqb}
@@ -11,7 +11,6 @@ use Rattle.meaning.specs.Kinds.{GOAL, value}
 use Rattle.meaning.specs.Program.{entryAt}
 use Rattle.meaning.specs.Record.{isMark}
 use Rattle.meaning.specs.Cycle.{noGoal, contested, isKind, isLeaf}
-use Rattle.meaning.specs.Answers.{noVariable}
 
 -- goal byte b merged with the value x of one more GOAL
 unfoldable pub mergedByte : ℕ → ℕ → ℕ
@@ -29,8 +28,3 @@ goalsMerged g (e ∷ es) = goalsMerged (cond (isKind GOAL e) (goalMerged g (e .o
 -- part p among the marked leaves, marked m
 unfoldable pub leafAt : List ℕ → ℕ → ℕ → List Entry
 leafAt t p m = cond (isMark m && isLeaf (entryAt Table t p)) (entryAt Table t p ∷ []) []
-
--- the lowest variable whose byte is contested, of those from v on, or 255
-unfoldable pub lowestContested : ℕ → List ℕ → ℕ
-lowestContested v [] = noVariable
-lowestContested v (b ∷ bs) = cond (eqb b contested) v (lowestContested (suc v) bs)

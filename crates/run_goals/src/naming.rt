@@ -8,8 +8,8 @@ ghost use Prim.Native.Nat.{_+_, _≤_};
 ghost use lib.ListN.{length};
 ghost use Rattle.base.specs.Lists.{bytesAt};
 ghost use Rattle.meaning.specs.Sizes.{maxVariables};
+ghost use Rattle.meaning.specs.Cycle.{lowestContested};
 ghost use Rattle.meaning.specs.Answers.{answered, offerNumber, oneCase};
-ghost use Rattle.run_goals.specs.Merged.{lowestContested};
 
 // Names the lowest of n variables whose goal byte is contested, or none.
 pub fn lowest_contested(g: &[u8], n: u8) -> OfferAnswer

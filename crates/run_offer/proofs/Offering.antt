@@ -19,7 +19,7 @@ use Rattle.meaning.specs.Sizes.{maxVariables, timeWidth, littleEndian}
 use Rattle.meaning.specs.Program.{parts, variables}
 use Rattle.meaning.specs.Table.{isTable}
 use Rattle.meaning.specs.Record.{timePlace, estimatePlace, marksPlace, recordLength, phaseOf, lastTime, estimateIn, marksIn, offered}
-use Rattle.meaning.specs.Cycle.{leavesFrom, goalBytes, situation, checkedFrom, offerRefusal, checkedMarks, offeredGoals, offeredRecord, offeredInto, goalsInto}
+use Rattle.meaning.specs.Cycle.{leavesFrom, goalBytes, lowestContested, situation, checkedFrom, offerRefusal, checkedMarks, offeredGoals, offeredName, offeredRecord, offeredInto, goalsInto}
 use Rattle.meaning.specs.Answers.{answered, refusalNumber, answerNumber, bufferTooShort, wrongPhase, timeBeforeLast}
 use Rattle.meaning.specs.Operations.{Offered}
 use Rattle.meaning.proofs.Answers.{not-refused, is-refused, refused-before, left-open}
@@ -29,9 +29,7 @@ use Rattle.meaning.proofs.Entries.{length-goals}
 use Rattle.run_record.proofs.Marks.{marks-inside}
 use Rattle.run_allowed.specs.Running.{runTests}
 use Rattle.run_offer.specs.CheckSteps.{judging}
-use Rattle.run_goals.specs.Merged.{lowestContested}
 use Rattle.run_offer.proofs.Checking.{judging-same}
-use Rattle.run_goals.proofs.Names.{lowest-names}
 
 -- The refusals: those of every run that does not go on, then each by the test that fails after those that pass
 module _ (t r : List ℕ) (time room : ℕ) where
@@ -118,7 +116,7 @@ module _ (t r s g h : List ℕ) (time : ℕ) (free : offerRefusal t r time (leng
   goals-offered =
       h-is ∙ rw (s-is, marks-after t r time (offer-table t r time (length g) free) (offer-long t r time (length g) free))
 
-  pub name-offered : (n v : ℕ) → v ≡ variables t → n ≡ answered + lowestContested 0 (bytesAt h 0 v) → n ≡ answered + lowestContested 0 (offeredGoals t r time)
+  pub name-offered : (n v : ℕ) → v ≡ variables t → n ≡ answered + lowestContested 0 (bytesAt h 0 v) → n ≡ answered + offeredName t r time
   name-offered n v v-is n-is =
       let e : bytesAt h 0 v ≡ offeredGoals t r time = rw (goals-offered, v-is) (bytes-sets (offeredGoals t r time) g 0 (variables t) (length-goals (variables t) (leavesFrom t 0 (checkedMarks t r time))) (omega (arith, offer-room t r time (length g) free))) in
       n-is ∙ rw e
@@ -131,21 +129,11 @@ offer-refused t r g time a why a-is told =
     let n : offerRefusal t r time (length g) ≡ 0 → ⊥ = is-refused a why (offerRefusal t r time (length g)) a-is told in
     let z : eqb (offerRefusal t r time (length g)) 0 ≡ false = ne-eqb (offerRefusal t r time (length g)) 0 n in
     record {
-      refusal-is = λ h. e;
-      answer-follows = λ h. absurd (n h);
-      names = λ h. absurd (n h);
+      answer-is = rw z e;
       record-is = rw z;
       goals-are = rw z;
     }
 
-pub offer-made : (t r g s h : List ℕ) (time n : ℕ) → offerRefusal t r time (length g) ≡ 0 → n ≡ answered + lowestContested 0 (offeredGoals t r time) → s ≡ offeredRecord t r time → h ≡ sets g 0 (offeredGoals t r time) → Offered t r time g n s h
+pub offer-made : (t r g s h : List ℕ) (time n : ℕ) → offerRefusal t r time (length g) ≡ 0 → n ≡ answered + offeredName t r time → s ≡ offeredRecord t r time → h ≡ sets g 0 (offeredGoals t r time) → Offered t r time g n s h
 unfolding offeredInto goalsInto
-offer-made t r g s h time n z n-is s-is h-is =
-    let k : n - answered ≡ lowestContested 0 (offeredGoals t r time) = omega arith in
-    record {
-      refusal-is = λ f. absurd (f z);
-      answer-follows = λ f. omega arith;
-      names = λ f. rw k (lowest-names (offeredGoals t r time));
-      record-is = rw z s-is;
-      goals-are = rw z h-is;
-    }
+offer-made t r g s h time n z n-is s-is h-is = record { answer-is = rw z n-is; record-is = rw z s-is; goals-are = rw z h-is }

@@ -1,5 +1,5 @@
 // The operation that makes an offer: its refusals (9, 10, 14, 11, 12, 8), the MAINTAINs checked, the goal bytes written,
-// a contested variable named.
+// the lowest contested variable named.
 pub mod checks;
 
 use crate::checks::check_marks;
@@ -25,10 +25,9 @@ ghost use lib.ListN.{length};
 ghost use lib.Seq.{sets};
 ghost use Rattle.meaning.specs.Table.{isTable};
 ghost use Rattle.meaning.specs.Record.{recordLength};
-ghost use Rattle.meaning.specs.Cycle.{offerRefusal, offeredRecord, offeredGoals};
+ghost use Rattle.meaning.specs.Cycle.{offerRefusal, offeredRecord, offeredGoals, offeredName};
 ghost use Rattle.meaning.specs.Answers.{answered, answerNumber, offerNumber, oneCase};
 ghost use Rattle.meaning.specs.Operations.{Offered};
-ghost use Rattle.run_goals.specs.Merged.{lowestContested};
 
 // Makes an offer: refusals 9, 10, 14, 11, 12, 8.
 pub fn offer(t: &[u8], r: &mut [u8], time: u32, goals: &mut [u8]) -> OfferAnswer
@@ -65,7 +64,7 @@ fn offer_refusal(t: &[u8], r: &[u8], time: u32, room: usize) -> Answer
 // Makes an offer that nothing refuses.
 fn make_offer(t: &[u8], r: &mut [u8], time: u32, goals: &mut [u8]) -> OfferAnswer
     requires { ⌜ offerRefusal (now t) (now r) time (length (now goals)) ≡ 0 ⌝ }
-    ensures { λ a. ⌜ offerNumber a ≡ answered + lowestContested 0 (offeredGoals (now (t .entry)) (now (r .entry)) time) ⌝ }
+    ensures { λ a. ⌜ offerNumber a ≡ answered + offeredName (now (t .entry)) (now (r .entry)) time ⌝ }
     ensures { λ a. ⌜ oneCase a ≡ true ⌝ }
     ensures { λ _. ⌜ now (r .exit) ≡ offeredRecord (now (t .entry)) (now (r .entry)) time ⌝ }
     ensures { λ _. ⌜ now (goals .exit) ≡ sets (now (goals .entry)) 0 (offeredGoals (now (t .entry)) (now (r .entry)) time) ⌝ }

@@ -4,7 +4,7 @@ use native.Mathlib.Omega.{arith}
 use mathlib.Core.Path.{_≡_, refl, sym, _∙_}
 use mathlib.Core.Logic.{_↔_, _⊎_, inl, inr}
 use mathlib.Core.Bool.{Bool, true, false, cond, _&&_, _||_, false≢true, or-true}
-use mathlib.Core.List.{List, [], _∷_, _++_}
+use mathlib.Core.List.{List, [], _∷_}
 use lib.Dec.{eqb}
 use lib.ListN.{length, getD}
 use borrow.Author.Tests.{eqb-true, eqb-false, eq-eqb}
@@ -18,9 +18,9 @@ use Rattle.meaning.specs.Kinds.{GOAL, value}
 use Rattle.meaning.specs.Program.{parts, variables, clocks, entryAt}
 use Rattle.meaning.specs.Table.{operandOf, isTable}
 use Rattle.meaning.specs.Record.{marksPlace, estimateIn, marksIn}
-use Rattle.meaning.specs.Cycle.{isKind, isLeaf, leavesFrom, noGoal, contested, valuesFor, goalByte, situation, checkedMarks, offeredGoals}
+use Rattle.meaning.specs.Cycle.{isKind, isLeaf, leavesFrom, noGoal, contested, givesTo, valuesFor, goalByte, situation, checkedMarks, offeredGoals}
 use Rattle.sentences.specs.Marks.{GoalAt, NoGoalAt, GoalsAgree, GoalsDiffer}
-use Rattle.meaning.proofs.Entries.{entry-allowed, goal-fits, byte-at}
+use Rattle.meaning.proofs.Entries.{entry-allowed, goal-fits, any-given, byte-at}
 use Rattle.meaning.proofs.Records.{length-checked}
 use Rattle.sentences.proofs.LeavesAt.{leaf-marked}
 
@@ -64,19 +64,10 @@ place-in (x ∷ xs) (suc i) l = rw (place-in xs i (omega arith), or-true)
 
 -- an entry is a GOAL that gives variable v value x
 abbrev gives : ℕ → ℕ → Entry → Bool
-gives v x e = (isKind GOAL e && eqb (e .operand .b1) v) && eqb x (value (e .operand))
+gives v x e = givesTo v e && eqb x (value (e .operand))
 
 gives-leaf : (v x : ℕ) (e : Entry) → gives v x e ≡ true → isLeaf e ≡ true
-gives-leaf v x e h = rw (and-left (isKind GOAL e) (eqb (e .operand .b1) v) (and-left (isKind GOAL e && eqb (e .operand .b1) v) (eqb x (value (e .operand))) h))
-
-values-given : (v x : ℕ) (es : List Entry) → any (eqb x) (valuesFor v es) ≡ any (gives v x) es
-unfolding valuesFor
-values-given v x [] = refl
-values-given v x (e ∷ es) = rw (← (values-given v x es)) (go (isKind GOAL e && eqb (e .operand .b1) v))
-  where
-    go : (b : Bool) → any (eqb x) (cond b (value (e .operand) ∷ []) [] ++ valuesFor v es) ≡ ((b && eqb x (value (e .operand))) || any (eqb x) (valuesFor v es))
-    go true = refl
-    go false = refl
+gives-leaf v x e h = rw (and-left (isKind GOAL e) (eqb (e .operand .b1) v) (and-left (givesTo v e) (eqb x (value (e .operand))) h))
 
 module _ (t ms : List ℕ) (v : ℕ) where
   abbrev given : List ℕ
@@ -86,9 +77,9 @@ module _ (t ms : List ℕ) (v : ℕ) where
   value-at : (i : ℕ) → i < length given → (p : ℕ) × GoalAt t ms v p × (value (operandOf t p) ≡ getD given i 0)
   value-at i l =
       let x = getD given i 0 in
-      let (p, (m, a, h)) = leaf-marked (gives v x) (gives-leaf v x) t ms .0 (sym (values-given v x (leavesFrom t 0 ms)) ∙ place-in given i l) in
-      let k = and-left (isKind GOAL (entryAt Table t p) && eqb (operandOf t p .b1) v) (eqb x (value (operandOf t p))) h in
-      let e = and-right (isKind GOAL (entryAt Table t p) && eqb (operandOf t p .b1) v) (eqb x (value (operandOf t p))) h in (
+      let (p, (m, a, h)) = leaf-marked (gives v x) (gives-leaf v x) t ms .0 (sym (any-given v (eqb x) (leavesFrom t 0 ms)) ∙ place-in given i l) in
+      let k = and-left (givesTo v (entryAt Table t p)) (eqb x (value (operandOf t p))) h in
+      let e = and-right (givesTo v (entryAt Table t p)) (eqb x (value (operandOf t p))) h in (
         p,
         (m, a, and-left (isKind GOAL (entryAt Table t p)) (eqb (operandOf t p .b1) v) k, eqb-true (operandOf t p .b1) v (and-right (isKind GOAL (entryAt Table t p)) (eqb (operandOf t p .b1) v) k)),
         sym (eqb-true x (value (operandOf t p)) e),
@@ -97,7 +88,7 @@ module _ (t ms : List ℕ) (v : ℕ) where
   value-of : (p : ℕ) → GoalAt t ms v p → (i : ℕ) × (i < length given) × (getD given i 0 ≡ value (operandOf t p))
   value-of p (l, a, g, e) =
       let x = value (operandOf t p) in
-      in-place x given (values-given v x (leavesFrom t 0 ms) ∙ leaf-marked (gives v x) (gives-leaf v x) t ms .1 (p, (l, a, rw (g, eq-eqb (operandOf t p .b1) v e, eq-eqb x x refl))))
+      in-place x given (any-given v (eqb x) (leavesFrom t 0 ms) ∙ leaf-marked (gives v x) (gives-leaf v x) t ms .1 (p, (l, a, rw (g, eq-eqb (operandOf t p .b1) v e, eq-eqb x x refl))))
 
   -- where no marked GOAL has a value above 250, a goal byte says one of the three
   pub byte-says : ((p : ℕ) → GoalAt t ms v p → value (operandOf t p) ≤ maxValue) → Says (goalByte given) t ms v

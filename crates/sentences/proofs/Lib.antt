@@ -4,6 +4,7 @@ pub mod Initialised
 pub mod AllowedRecords
 pub mod LeavesAt
 pub mod GoalBytes
+pub mod Naming
 pub mod ClockStarts
 pub mod Followers
 pub mod Settlings

@@ -17,12 +17,13 @@ use Rattle.meaning.specs.Record.{timePlace, estimatePlace, startedPlace, starts
 use Rattle.meaning.specs.Conditions.{Situation}
 use Rattle.meaning.specs.Cycle.{situation}
 use Rattle.meaning.proofs.Nesting.{lower}
-use Rattle.sentences.specs.Marks.{Marked, Flags, NoGoalAt, GoalsAgree, GoalsDiffer}
+use Rattle.sentences.specs.Marks.{Marked, Flags, NoGoalAt, GoalsAgree, GoalsDiffer, NamesLowest}
 use Rattle.sentences.specs.Fields.{Bytes, Spare}
 use Rattle.sentences.specs.Stepping.{BeginningSteps, OfferSteps, SettlingSteps}
 use Rattle.sentences.proofs.AllowedRecords.{is-mark}
 use Rattle.sentences.proofs.RecordFields.{byte-same}
 use Rattle.sentences.proofs.GoalBytes.{Says, byte-says, goal-values-fit}
+use Rattle.sentences.proofs.Naming.{one-lowest}
 use Rattle.sentences.proofs.Endings.{same-after, determined}
 
 -- lists that have the same at each place
@@ -155,7 +156,7 @@ module _ (t est r a b : List ℕ) (x : BeginningSteps t est r a) (y : BeginningS
       spare i k (inl l) = x .spare-zero i k l ∙ sym (y .spare-zero i k l)
       spare i k (inr l) = x .further-kept i l ∙ sym (y .further-kept i l)
 
-module _ (t r : List ℕ) (time : ℕ) (goals a ga b gb : List ℕ) (x : OfferSteps t r time goals a ga) (y : OfferSteps t r time goals b gb) where
+module _ (t r : List ℕ) (time : ℕ) (goals : List ℕ) (na : ℕ) (a ga : List ℕ) (nb : ℕ) (b gb : List ℕ) (x : OfferSteps t r time goals na a ga) (y : OfferSteps t r time goals nb b gb) where
   offered-marks : marksIn t a ≡ marksIn t b
   offered-marks = same-marks t a b (x .checked-flags) (y .checked-flags) (λ p. Iff·trans (x .marks-checked p) (Iff·symm (y .marks-checked p)))
 
@@ -168,9 +169,13 @@ module _ (t r : List ℕ) (time : ℕ) (goals a ga b gb : List ℕ) (x : OfferSt
       go g (inr (inl (e, agree))) = x .goal-value v l g .1 agree .0 ∙ sym (y .goal-value v l g .1 (subst (λ ms. GoalsAgree t ms v g) offered-marks agree) .0)
       go g (inr (inr (e, differ))) = x .goal-differs v l .1 differ ∙ sym (y .goal-differs v l .1 (subst (λ ms. GoalsDiffer t ms v) offered-marks differ))
 
-  -- two records, and two goal buffers, that meet those about one offer
-  pub offer-only : isTable t ≡ true → Bytes a → Bytes b → (a ≡ b) × (ga ≡ gb)
+  same-name : na ≡ nb
+  same-name = one-lowest (GoalsDiffer t (marksIn t a)) (variables t) na nb (x .lowest-named) (subst (λ ms. NamesLowest (GoalsDiffer t ms) (variables t) nb) (sym offered-marks) (y .lowest-named))
+
+  -- two names, records and goal buffers that meet those about one offer
+  pub offer-only : isTable t ≡ true → Bytes a → Bytes b → (na ≡ nb) × (a ≡ b) × (ga ≡ gb)
   offer-only h small others = (
+    same-name,
     same-record t a b small others
         (record {
           phases = x .phase-offered ∙ sym (y .phase-offered);

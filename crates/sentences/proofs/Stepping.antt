@@ -22,7 +22,7 @@ use Rattle.meaning.specs.Program.{parts, variables, clocks, entryAt}
 use Rattle.meaning.specs.Table.{kindAt, operandOf, endAt, Inside, isTable}
 use Rattle.meaning.specs.Conditions.{Situation, violated}
 use Rattle.meaning.specs.Record.{estimatePlace, startedPlace, startsPlace, marksPlace, recordLength, phaseOf, lastTime, estimateIn, startedIn, startsIn, marksIn, isMark, restZero, recordAllowed, waiting, finished}
-use Rattle.meaning.specs.Cycle.{initialMarks, isKind, breaks, checkedFrom, situation, beginRefusal, begunInto, offeredGoals, offerRefusal, offeredInto, goalsInto, settleRefusal, settledInto, startingLeaves, settledFlags}
+use Rattle.meaning.specs.Cycle.{initialMarks, isKind, breaks, checkedFrom, situation, beginRefusal, begunInto, offeredGoals, offeredName, offerRefusal, offeredInto, goalsInto, settleRefusal, settledInto, startingLeaves, settledFlags}
 use Rattle.meaning.proofs.Lies.{own-row, own-kind}
 use Rattle.meaning.proofs.Nesting.{lower, at, outer-part}
 use Rattle.meaning.proofs.Refusals.{offer-tests, goal-bytes-into, settle-tests}
@@ -37,6 +37,7 @@ use Rattle.sentences.proofs.Settlings.{endsAt, marked-length, root-ends
 use Rattle.sentences.proofs.ZeroOrOne.{flags-initial, flags-checked, flags-settled}
 use Rattle.sentences.proofs.Checked.{offer-marks}
 use Rattle.sentences.proofs.GoalBytes.{no-goal, goal-agreed, goal-contested}
+use Rattle.sentences.proofs.Naming.{offered-lowest}
 use Rattle.sentences.proofs.RecordFields.{offered-record, offered-spare, offered-length, settled-record, settled-spare, settled-length}
 use Rattle.sentences.proofs.ClockStarts.{clock-flag, clock-kept as kept, clock-started as started, clock-unstarted as unstarted}
 use Rattle.sentences.proofs.AfterSettling.{settled-marks}
@@ -149,7 +150,7 @@ module _ (t r : List ℕ) (time : ℕ) (goals : List ℕ) (h : offerRefusal t r 
   goal-is v l = rw zero-add at (sym (getD-bytes (goalsInto t r time goals) 0 (variables t) v l)) ∙ ap (λ (x : List ℕ). getD x v 0) (goal-bytes-into t r time goals h .0)
 
   -- an offer that is not refused
-  pub offer-steps : time < timeLimit → OfferSteps t r time goals (offeredInto t r time (length goals)) (goalsInto t r time goals)
+  pub offer-steps : time < timeLimit → OfferSteps t r time goals (offeredName t r time) (offeredInto t r time (length goals)) (goalsInto t r time goals)
   offer-steps fits =
       let room : ℕ = length goals in
       let table : isTable t ≡ true = offer-tests t r time room h .0 in
@@ -164,6 +165,7 @@ module _ (t r : List ℕ) (time : ℕ) (goals : List ℕ) (h : offerRefusal t r 
         goal-none = λ v l. rw (goal-is v l, f .marks-are) (no-goal t r time table v l);
         goal-value = λ v l x. rw (goal-is v l, f .marks-are) (goal-agreed t r time table v l x);
         goal-differs = λ v l. rw (goal-is v l, f .marks-are) (goal-contested t r time table v l);
+        lowest-named = rw (f .marks-are) (offered-lowest t r time table);
         goals-kept = further (variables t) goals (goalsInto t r time goals) (goal-bytes-into t r time goals h .1);
         goals-length = goals-as-long;
         estimate-kept = f .estimate-is;

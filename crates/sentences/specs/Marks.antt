@@ -2,6 +2,7 @@
 use Prim.Native.Nat.{ℕ, _≤_, _<_}
 use mathlib.Core.Path.{_≡_}
 use mathlib.Core.Bool.{Bool, true}
+use mathlib.Core.Logic.{_⊎_}
 use mathlib.Core.List.{List}
 use lib.ListN.{length, getD}
 use Rattle.meaning.specs.declared.Entry.{Entry}
@@ -11,6 +12,7 @@ use Rattle.meaning.specs.Program.{entryAt}
 use Rattle.meaning.specs.Table.{kindAt, operandOf, Inside}
 use Rattle.meaning.specs.Record.{startedIn, isMark}
 use Rattle.meaning.specs.Cycle.{isKind}
+use Rattle.meaning.specs.Answers.{noVariable}
 
 -- part p is marked
 abbrev pub Marked : List ℕ → ℕ → Type 0
@@ -45,6 +47,11 @@ GoalsAgree t ms v x = ((p : ℕ) × GoalAt t ms v p) × ((p : ℕ) → GoalAt t 
 
 abbrev pub GoalsDiffer : List ℕ → List ℕ → ℕ → Type 0
 GoalsDiffer t ms v = (p : ℕ) × (q : ℕ) × GoalAt t ms v p × GoalAt t ms v q × (value (operandOf t p) ≡ value (operandOf t q) → ⊥)
+
+-- "names the lowest-numbered contested variable" (document 02, R-1), "or 255 exactly where none is contested": of n variables, x is contested and none
+-- below it is, or x is 255 and none is contested
+abbrev pub NamesLowest : (ℕ → Type 0) → ℕ → ℕ → Type 0
+NamesLowest Contested n x = ((x < n) × Contested x × ((v : ℕ) → v < x → Contested v → ⊥)) ⊎ ((x ≡ noVariable) × ((v : ℕ) → v < n → Contested v → ⊥))
 
 -- part p is a marked START of clock c
 abbrev pub StartAt : List ℕ → List ℕ → ℕ → ℕ → Type 0

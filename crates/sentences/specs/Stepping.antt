@@ -1,4 +1,4 @@
--- A beginning, an offer and a settling as document 01 says them: by part number, variable and clock, with no pass over the parts.
+-- A beginning, an offer and a settling as the papers say them: by part number, variable and clock, with no pass over the parts.
 use Prim.Native.Nat.{ℕ, suc, _≤_, _<_}
 use mathlib.Core.Path.{_≡_}
 use mathlib.Core.Bool.{Bool, true, false, cond}
@@ -13,7 +13,7 @@ use Rattle.meaning.specs.Table.{kindAt, operandOf, endAt, nextAt, Inside}
 use Rattle.meaning.specs.Conditions.{Situation, reached, satisfied, violated}
 use Rattle.meaning.specs.Record.{recordLength, phaseOf, lastTime, estimateIn, startedIn, startsIn, marksIn, waiting, offered, finished}
 use Rattle.meaning.specs.Cycle.{isLeaf, noGoal, contested, situation}
-use Rattle.sentences.specs.Marks.{Marked, Started, Flags, Deciding, NoGoalAt, GoalsAgree, GoalsDiffer, StartAt}
+use Rattle.sentences.specs.Marks.{Marked, Started, Flags, Deciding, NoGoalAt, GoalsAgree, GoalsDiffer, NamesLowest, StartAt}
 use Rattle.sentences.specs.Fields.{Spare}
 use Rattle.sentences.specs.Allowed.{Child}
 
@@ -44,8 +44,8 @@ pub record BeginningSteps (t est r r' : List ℕ) : Type 0 where
 abbrev pub Broken : List ℕ → Situation → List ℕ → ℕ → Type 0
 Broken t sit ms p = Marked ms p × (kindAt t p ≡ MAINTAIN) × (violated sit (operandOf t p) ≡ true)
 
--- An offer: record r and goal buffer goals, and r' and goals' after it
-pub record OfferSteps (t r : List ℕ) (time : ℕ) (goals r' goals' : List ℕ) : Type 0 where
+-- An offer: record r and goal buffer goals, the variable that it names, and r' and goals' after it
+pub record OfferSteps (t r : List ℕ) (time : ℕ) (goals : List ℕ) (name : ℕ) (r' goals' : List ℕ) : Type 0 where
   -- "The phase becomes 1 and the time becomes the last time"
   pub phase-offered : phaseOf r' ≡ offered
   pub time-offered : lastTime r' ≡ time
@@ -57,6 +57,8 @@ pub record OfferSteps (t r : List ℕ) (time : ℕ) (goals r' goals' : List ℕ)
   pub goal-none : (v : ℕ) → v < variables t → (getD goals' v 0 ≡ noGoal) ↔ NoGoalAt t (marksIn t r') v
   pub goal-value : (v : ℕ) → v < variables t → (x : ℕ) → ((getD goals' v 0 ≡ x) × (x ≤ maxValue)) ↔ GoalsAgree t (marksIn t r') v x
   pub goal-differs : (v : ℕ) → v < variables t → (getD goals' v 0 ≡ contested) ↔ GoalsDiffer t (marksIn t r') v
+  -- "The offer now names the lowest-numbered contested variable" (document 02, R-1)
+  pub lowest-named : NamesLowest (GoalsDiffer t (marksIn t r')) (variables t) name
   -- "Further goal bytes are untouched"
   pub goals-kept : (v : ℕ) → variables t ≤ v → getD goals' v 0 ≡ getD goals v 0
   pub goals-length : length goals' ≡ length goals

@@ -1,11 +1,11 @@
--- The ten stations hold, by the table's definitions and by the unfolding: one fact over the table of them, computed.
+-- The ten stations and the further programs hold, by the table's definitions and by the unfolding: one fact over the tables of them, computed.
 use mathlib.Core.Path.{_≡_, refl}
 use mathlib.Core.Bool.{true}
 use Rattle.meaning.proofs.Computed.{settle as settleCall}
 use Rattle.agreement.specs.Unfolding.{afresh, check, working, settle}
-use Rattle.agreement.specs.Runs.{treeNext, treeReply, tableFinishing, treeFinishing}
-use Rattle.stations.specs.Stations.{stations, further, sameReply, sameReplies, byTable, byTree, holds, allHold}
+use Rattle.agreement.specs.Runs.{treeNext, treeReply, tableFinishing, treeFinishing, lowestAtWork}
+use Rattle.stations.specs.Stations.{stations, further, lamps, sameReply, sameReplies, byTable, byTree, holds, allHold}
 
 pub ten-stations : allHold ≡ true
-unfolding stations further tableFinishing treeFinishing sameReply sameReplies byTable byTree holds settleCall afresh check working settle treeNext treeReply
+unfolding stations further lamps lowestAtWork tableFinishing treeFinishing sameReply sameReplies byTable byTree holds settleCall afresh check working settle treeNext treeReply
 ten-stations = refl

@@ -1,4 +1,5 @@
--- Ten stations to be proved: a table of them, and what it is for one of them to hold by the table's definitions and by the unfolding.
+-- The ten stations of document 01, further programs, and those of document 02's R-1: tables of them, and what it is for one of them to hold by the
+-- table's definitions and by the unfolding.
 use Prim.Native.Nat.{ℕ, suc, _≤_, _<_}
 use mathlib.Core.Path.{_≡_}
 use mathlib.Core.Bool.{Bool, true, false, cond, _&&_}
@@ -13,8 +14,8 @@ use Rattle.meaning.specs.Tree.{Part}
 use Rattle.meaning.specs.Program.{variables, clocks, treeOf, programRefusal}
 use Rattle.meaning.specs.Table.{compiled}
 use Rattle.meaning.specs.Record.{recordLength, startedIn, startsIn}
-use Rattle.meaning.specs.Cycle.{beginRefusal, begunInto}
-use Rattle.meaning.specs.Answers.{tooDeep, bufferTooShort, wrongPhase, timeBeforeLast, estimateNotAllowed, runFinished}
+use Rattle.meaning.specs.Cycle.{noGoal, contested, beginRefusal, begunInto}
+use Rattle.meaning.specs.Answers.{tooDeep, bufferTooShort, wrongPhase, timeBeforeLast, estimateNotAllowed, runFinished, noVariable}
 use Rattle.agreement.specs.Runs.{Call, offer, settling, Reply, refused, goals, running, done, tableReplies, tableAfter, begin, treeReplies, treeAfter, tableFinishing, treeFinishing}
 
 -- A station: the program file, what compiling answers (0, or its refusal), the first estimate, the calls, their replies, the finishing cycle,
@@ -40,15 +41,23 @@ at time = offer time (7 ∷ [])
 abbrev pub with-estimate : ℕ → Call
 with-estimate e = settling (e ∷ [])
 
+-- the goal byte that an offer gives where nothing is contested, and where the one variable is
 abbrev pub goal-is : ℕ → Reply
-goal-is g = goals (g ∷ [])
+goal-is g = goals (g ∷ []) noVariable
 
--- a program that starts no clock, one that starts its clock, and one that compiling refuses
+abbrev pub contested-is : Reply
+contested-is = goals (contested ∷ []) 0
+
+-- a program that starts no clock, one that starts its clock, one of several variables that has no clock and does not finish, and one that
+-- compiling refuses
 abbrev pub station : List ℕ → ℕ → List Call → List Reply → Option ℕ → Station
 station f e cs rs n = record { file = f; answer = 0; first = e ∷ []; calls = cs; replies = rs; finishing = n; started = 0 ∷ []; starts = 0 ∷ [] }
 
 abbrev pub startingStation : List ℕ → List Call → List Reply → Option ℕ → ℕ → Station
 startingStation f cs rs n start = record { file = f; answer = 0; first = 0 ∷ []; calls = cs; replies = rs; finishing = n; started = 1 ∷ []; starts = start ∷ [] }
+
+abbrev pub clocklessStation : List ℕ → List ℕ → List Call → List Reply → Station
+clocklessStation f est cs rs = record { file = f; answer = 0; first = est; calls = cs; replies = rs; finishing = none; started = []; starts = [] }
 
 abbrev pub refusedStation : List ℕ → ℕ → Station
 refusedStation f n = record { file = f; answer = n; first = []; calls = []; replies = []; finishing = none; started = []; starts = [] }
@@ -90,7 +99,7 @@ stations =
     ∷ station limited 0 (at 0 ∷ []) (goal-is 1 ∷ []) none
     ∷ station limited 0 (at 4294967295 ∷ []) (goal-is 1 ∷ []) none
     ∷ station branches 0 (at 0 ∷ with-estimate 0 ∷ at 0 ∷ []) (goal-is 255 ∷ running ∷ goal-is 2 ∷ []) none
-    ∷ station contests 0 (at 0 ∷ with-estimate 1 ∷ at 0 ∷ []) (goal-is 254 ∷ running ∷ goal-is 2 ∷ []) none
+    ∷ station contests 0 (at 0 ∷ with-estimate 1 ∷ at 0 ∷ []) (contested-is ∷ running ∷ goal-is 2 ∷ []) none
     ∷ station (repeats 1) 0 (at 0 ∷ with-estimate 1 ∷ at 0 ∷ []) (goal-is 1 ∷ running ∷ goal-is 1 ∷ []) none
     ∷ startingStation starts2 (at 10 ∷ with-estimate 0 ∷ at 20 ∷ with-estimate 0 ∷ []) (goal-is 255 ∷ running ∷ goal-is 255 ∷ done ∷ []) (some 2) 10
     ∷ startingStation waits (at 100 ∷ with-estimate 0 ∷ at 109 ∷ with-estimate 0 ∷ at 110 ∷ with-estimate 0 ∷ []) (goal-is 255 ∷ running ∷ goal-is 255 ∷ running ∷ goal-is 255 ∷ done ∷ []) (some 3) 100
@@ -116,6 +125,43 @@ further =
     ∷ station goal1 0 (at 5 ∷ with-estimate 0 ∷ at 4 ∷ offer 5 [] ∷ at 5 ∷ with-estimate 1 ∷ at 6 ∷ with-estimate 1 ∷ []) (goal-is 1 ∷ running ∷ refused timeBeforeLast ∷ refused bufferTooShort ∷ goal-is 1 ∷ done ∷ refused runFinished ∷ refused runFinished ∷ []) (some 2)
     ∷ []
 
+-- "The offer now names the lowest-numbered contested variable" (document 02, R-1). PAR(GOAL 2=1, GOAL 2=2, GOAL 1=1, GOAL 1=2, GOAL 1=1, GOAL 0=5):
+-- of 3 variables 1 and 2 are contested, then 2 alone, then none. PAR(GOAL 31=1, GOAL 31=2, GOAL 0=1, GOAL 0=2): of 32 variables the first and the
+-- last, then the last alone
+abbrev pub threeLamps : List ℕ
+threeLamps =
+    7 ∷ 3 ∷ 0
+    ∷ 5 ∷ 1 ∷ 1 ∷ 1 ∷ 1 ∷ 1 ∷ 1
+    ∷ 6 ∷ 0 ∷ 0 ∷ 0
+    ∷ 0 ∷ 2 ∷ 1 ∷ 0
+    ∷ 0 ∷ 2 ∷ 2 ∷ 0
+    ∷ 0 ∷ 1 ∷ 1 ∷ 0
+    ∷ 0 ∷ 1 ∷ 2 ∷ 0
+    ∷ 0 ∷ 1 ∷ 1 ∷ 0
+    ∷ 0 ∷ 0 ∷ 5 ∷ 0
+    ∷ []
+
+abbrev pub outerLamps : List ℕ
+outerLamps =
+    5 ∷ 32 ∷ 0
+    ∷ 5 ∷ 1 ∷ 1 ∷ 1 ∷ 1
+    ∷ 4 ∷ 0 ∷ 0 ∷ 0
+    ∷ 0 ∷ 31 ∷ 1 ∷ 0
+    ∷ 0 ∷ 31 ∷ 2 ∷ 0
+    ∷ 0 ∷ 0 ∷ 1 ∷ 0
+    ∷ 0 ∷ 0 ∷ 2 ∷ 0
+    ∷ []
+
+unfoldable pub lamps : List Station
+lamps =
+    clocklessStation threeLamps (0 ∷ 0 ∷ 0 ∷ [])
+    (offer 0 (replicate 3 7) ∷ settling (0 ∷ 2 ∷ 0 ∷ []) ∷ offer 0 (replicate 3 7) ∷ settling (0 ∷ 2 ∷ 1 ∷ []) ∷ offer 0 (replicate 3 7) ∷ [])
+    (goals (5 ∷ contested ∷ contested ∷ []) 1 ∷ running ∷ goals (5 ∷ 1 ∷ contested ∷ []) 2 ∷ running ∷ goals (5 ∷ 1 ∷ 2 ∷ []) noVariable ∷ [])
+    ∷ clocklessStation outerLamps (replicate 32 0)
+    (offer 0 (replicate 32 7) ∷ settling (1 ∷ replicate 31 0) ∷ offer 0 (replicate 32 7) ∷ [])
+    (goals (contested ∷ replicate 30 noGoal ++ (contested ∷ [])) 0 ∷ running ∷ goals (2 ∷ replicate 30 noGoal ++ (contested ∷ [])) 31 ∷ [])
+    ∷ []
+
 -- Station 10: "The file .. and its table below"
 abbrev pub table10 : List ℕ
 table10 =
@@ -127,19 +173,19 @@ table10 =
 
 unfoldable pub sameReply : Reply → Reply → Bool
 sameReply (refused m) (refused n) = eqb m n
-sameReply (refused m) (goals h) = false
+sameReply (refused m) (goals h y) = false
 sameReply (refused m) running = false
 sameReply (refused m) done = false
-sameReply (goals g) (refused n) = false
-sameReply (goals g) (goals h) = same g h
-sameReply (goals g) running = false
-sameReply (goals g) done = false
+sameReply (goals g x) (refused n) = false
+sameReply (goals g x) (goals h y) = same g h && eqb x y
+sameReply (goals g x) running = false
+sameReply (goals g x) done = false
 sameReply running (refused n) = false
-sameReply running (goals h) = false
+sameReply running (goals h y) = false
 sameReply running running = true
 sameReply running done = false
 sameReply done (refused n) = false
-sameReply done (goals h) = false
+sameReply done (goals h y) = false
 sameReply done running = false
 sameReply done done = true
 
@@ -182,7 +228,7 @@ unfoldable pub holds : Station → Bool
 holds x = eqb (programRefusal File (x .file)) (x .answer) && cond (eqb (x .answer) 0) (byTable x && byTree x (treeOf File (x .file))) true
 
 abbrev pub allHold : Bool
-allHold = all holds stations && (same (compiled File waits) table10 && all holds further)
+allHold = all holds stations && (same (compiled File waits) table10 && (all holds further && all holds lamps))
 
 -- Stations 2 and 3 for all: "any settling finishes" after an offer at any time, with any estimate that is allowed; "goals 01 at any first time"
 abbrev pub finishesWith : ℕ → ℕ → Station

@@ -1,2 +1,2 @@
-// Ten stations to be proved, by the table's definitions and by the unfolding: definitions and a
-// computed proof, no code.
+// The ten stations and further programs, by the table's definitions and by the unfolding: definitions
+// and computed proofs, no code.

@@ -3,7 +3,7 @@
 
 use crate::cases::{self, Draft, DraftPart, Shape};
 use crate::parts::{
-    count_bytes, operand_bytes, Kind, Test, CHOICE, GOAL, MAINTAIN, REPEAT, START, WAIT,
+    count_bytes, operand_bytes, Kind, Test, CHOICE, GOAL, MAINTAIN, REPEAT, SEQ, START, WAIT,
 };
 use crate::rng::Rng;
 use crate::sizes::{MAX_CLOCKS, MAX_DEPTH, MAX_PARTS, MAX_VALUE, MAX_VARIABLES, OPERAND_LEN};
@@ -86,6 +86,36 @@ fn two_starts() -> [DraftPart; 3] {
         draft_part(Kind::Start, operand_bytes(0, 0, 0)),
         draft_part(Kind::Start, operand_bytes(0, 1, 0)),
     ]
+}
+
+/// The file of a random program in which two or more variables are often contested at once: most
+/// leaves are GOALs, and most lists of children are PARs. MAINTAINs that break and SEQs have GOALs
+/// come and go.
+pub fn contending_program(rng: &mut Rng) -> Vec<u8> {
+    let parts = rng.between(5, 30);
+    let depth = rng.between(2, 5);
+    let shape = rng.pick(&[Shape::Wide, Shape::Mixed]);
+    let mut draft = cases::program(rng, parts, depth, shape);
+    narrow(rng, &mut draft);
+    let variables = rng.pick(&[2, 3, 5, MAX_VARIABLES as u8]);
+    draft.variables = draft.variables.max(variables);
+    for part in &mut draft.parts {
+        *part = contending_part(rng, *part, draft.variables);
+    }
+    draft.file()
+}
+
+/// Another part in place of this one, with as many children.
+fn contending_part(rng: &mut Rng, part: DraftPart, variables: u8) -> DraftPart {
+    let last = variables - 1;
+    let any = rng.below(usize::from(variables)) as u8;
+    let variable = rng.pick(&[0, 1, last - 1, last, any]);
+    let goal = operand_bytes(0, variable, rng.pick(&[0, 1, 2]));
+    match part.kind {
+        GOAL | START | WAIT if !rng.one_in(6) => draft_part(Kind::Goal, goal),
+        SEQ if !rng.one_in(3) => draft_part(Kind::Par, part.operand),
+        _ => part,
+    }
 }
 
 /// Gives a program few variables, clocks, values and readings, so that its parts meddle with each

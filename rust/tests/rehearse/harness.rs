@@ -89,7 +89,7 @@ impl Tally {
 
     /// Answers to calls.
     fn answers(&self) -> u64 {
-        let answers = ["begun", "goals", "contested", "running", "finished"];
+        let answers = ["begun", "goals", ONE, SEVERAL, "running", "finished"];
         let refused = self.lines.keys().filter(|kind| kind.starts_with("refused"));
         let refused: u64 = refused.map(|kind| self.count(kind)).sum();
         refused + answers.iter().map(|kind| self.count(kind)).sum::<u64>()
@@ -105,13 +105,19 @@ impl Tally {
     }
 }
 
-/// What kind of line it is: the first word, with the number of a refusal; offers with a contested
-/// variable, and lines with no call, under names of their own.
+/// The kinds of offers with one contested variable, and with more.
+const ONE: &str = "contested one";
+const SEVERAL: &str = "contested several";
+
+/// What kind of line it is: the first word, with the number of a refusal; offers with contested
+/// variables, and lines with no call, under names of their own.
 fn kind(line: &str) -> String {
     let first = line.split(' ').next().unwrap_or_default();
+    let contested = line.split(' ').filter(|&pair| pair == "FE").count();
     match first {
         "refused" => line.to_string(),
-        "goals" if !line.ends_with(" named none") => "contested".to_string(),
+        "goals" if contested == 1 => ONE.to_string(),
+        "goals" if contested > 1 => SEVERAL.to_string(),
         "line" => "not a call".to_string(),
         _ => first.to_string(),
     }

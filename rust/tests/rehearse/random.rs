@@ -49,6 +49,13 @@ fn doubtful_programs() {
     assert_counts(file!(), "doubtful_programs", &tally.counts());
 }
 
+/// Programs in which several variables are often contested at once.
+#[test]
+fn contending_programs() {
+    let tally = check_scripts(607, 200, runs::contending_program);
+    assert_counts(file!(), "contending_programs", &tally.counts());
+}
+
 /// Small programs, which finish often.
 #[test]
 fn small_programs() {

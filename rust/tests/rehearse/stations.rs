@@ -1,7 +1,7 @@
 //! The stations of document 01 as lists of calls, with the texts that they give: `NAME.calls` and
 //! `NAME.out` in `tests/data/rehearsals`. The texts have the marked parts.
 
-use gurvoke::builder::{file, goal, par};
+use gurvoke::builder::{differs, file, goal, maintain, par};
 use gurvoke::examples;
 use gurvoke::hex::hex;
 use gurvoke::rehearsal::Rehearsal;
@@ -27,7 +27,7 @@ macro_rules! station {
     };
 }
 
-fn all() -> [Station; 13] {
+fn all() -> [Station; 14] {
     [
         station!("station_1", STATION_1),
         station!("station_2", STATION_2),
@@ -47,6 +47,9 @@ fn all() -> [Station; 13] {
         // Variables 1 and 3 are contested, and the lower one is named. A beginning counts the
         // cycles anew.
         station!("two_contested", five_goals()),
+        // Variables 0 and 31 are contested. What contends for 0 stands in a MAINTAIN, and when this
+        // is violated the name moves up to 31.
+        station!("the_name_moves", first_and_last()),
     ]
 }
 
@@ -55,6 +58,19 @@ fn five_goals() -> Vec<u8> {
     let goals = [(1, 1), (1, 2), (3, 1), (2, 7), (3, 2)];
     let goals = goals.map(|(variable, value)| goal(variable, value));
     file(4, 0, &par(goals.to_vec()))
+}
+
+/// Two GOALs for the last of 32 variables, two for the first as long as variable 1 is not 1, and one
+/// for variable 2.
+fn first_and_last() -> Vec<u8> {
+    let held = par(vec![goal(0, 1), goal(0, 2)]);
+    let root = par(vec![
+        goal(31, 1),
+        goal(31, 2),
+        maintain(differs(1, 1), held),
+        goal(2, 7),
+    ]);
+    file(32, 0, &root)
 }
 
 /// Each station with the marked parts, and without them: then the text lacks their lines.

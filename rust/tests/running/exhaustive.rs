@@ -13,14 +13,19 @@ use gurvoke::unfolding::{Program, Run};
 
 use crate::harness::{of_all_executives, Board, Tally};
 
-/// One variable with values 0 and 1, one clock with the limit 1.
+/// The first executive gets every program, each other one in so many. The number has no factor in
+/// common with those of leaves, conditions and contenders, so that a share meets all of them.
+const SHARE: usize = 11;
+
+/// Two variables with values 0 and 1, of which the second has always the other value than the
+/// first; one clock with the limit 1.
 fn conditions() -> [Condition; 4] {
     [equals(0, 1), differs(0, 1), at_least(0, 1), below(0, 1)]
 }
 
 fn leaves() -> Vec<Part> {
     let waits = [equals(0, 1), at_least(0, 1), below(0, 1)].map(wait);
-    let mut leaves = vec![goal(0, 0), goal(0, 1), start(0)];
+    let mut leaves = vec![goal(0, 0), goal(0, 1), goal(1, 0), goal(1, 1), start(0)];
     leaves.extend(waits);
     leaves
 }
@@ -70,36 +75,42 @@ fn programs() -> [Vec<Part>; 4] {
 }
 
 fn offer(time: u32) -> Call {
-    Call::Offer { time, room: 1 }
+    Call::Offer { time, room: 2 }
 }
 
-fn settle(value: u8) -> Call {
-    let estimate = vec![value];
+/// The values of both variables, by that of the first.
+fn values(first: u8) -> [u8; 2] {
+    [first, u8::from(first == 0)]
+}
+
+fn settle(estimate: &[u8]) -> Call {
+    let estimate = estimate.to_vec();
     Call::Settle { estimate }
 }
 
-/// The first executive gets every program, each other one in ten.
+/// The programs that each executive gets.
 fn shares(programs: &[Part]) -> Vec<(&'static Executive, Vec<Part>)> {
     let share = |(place, &executive): (usize, &&'static Executive)| {
-        let step = if place == 0 { 1 } else { 10 };
+        let step = if place == 0 { 1 } else { SHARE };
         (executive, programs.iter().step_by(step).cloned().collect())
     };
     ALL.iter().enumerate().map(share).collect()
 }
 
-/// Begins each program with each estimate, and hands board and run over.
-fn begin_all(
+/// Begins each program, of one clock, with each of these estimates, and hands board and run over.
+fn begin_all<const VARIABLES: usize>(
     executive: &'static Executive,
     programs: &[Part],
+    firsts: [[u8; VARIABLES]; 2],
     mut explore: impl FnMut(&mut Rng, Board, Run),
 ) {
     let mut rng = Rng::new(400);
     for root in programs {
-        let file = file(1, 1, root);
+        let file = file(VARIABLES, 1, root);
         let program = Program::read(&file).expect("a valid program");
-        for first in 0..=1 {
+        for first in &firsts {
             let mut board = Board::new(&mut rng, executive, &file, RECORD_LEN);
-            let begun = board.begin(&mut rng, &program, &[first]);
+            let begun = board.begin(&mut rng, &program, first);
             explore(&mut rng, board, begun.expect("an allowed estimate"));
         }
     }
@@ -131,19 +142,22 @@ fn every_list_of_four_calls() {
         offer(0),
         offer(1),
         offer(2),
-        settle(0),
-        settle(1),
-        settle(251),
+        settle(&values(0)),
+        settle(&values(1)),
+        settle(&values(251)),
     ];
     let [ones, twos, threes, _] = programs();
     let programs = [ones, twos, threes].concat();
-    assert_eq!(programs.len(), 6 + 7 * 6 + 7 * 7 * 6 + 6 * 6 * 6);
+    assert_eq!(programs.len(), 8 + 7 * 8 + 7 * 7 * 8 + 6 * 8 * 8);
     let mut counts = Vec::new();
     for (executive, programs) in shares(&programs) {
         let mut tally = Tally::default();
-        begin_all(executive, &programs, |rng, board, run| {
-            every_list(rng, &mut tally, (&board, &run), &calls, 4)
-        });
+        begin_all(
+            executive,
+            &programs,
+            [values(0), values(1)],
+            |rng, board, run| every_list(rng, &mut tally, (&board, &run), &calls, 4),
+        );
         // Each list that is not empty ends with a call of its own.
         let lists = 6 + 6 * 6 + 6 * 6 * 6 + 6 * 6 * 6 * 6;
         assert_eq!(tally.calls(), 2 * lists * programs.len() as u64);
@@ -165,10 +179,10 @@ fn every_cycle(rng: &mut Rng, tally: &mut Tally, (board, run): (&Board, &Run), c
         let mut board = board.clone();
         let mut run = run.clone();
         tally.note(&board.call(rng, &mut run, &offer(time)));
-        for value in 0..=1 {
+        for first in 0..=1 {
             let mut board = board.clone();
             let mut run = run.clone();
-            tally.note(&board.call(rng, &mut run, &settle(value)));
+            tally.note(&board.call(rng, &mut run, &settle(&values(first))));
             every_cycle(rng, tally, (&board, &run), cycles - 1);
         }
     }
@@ -189,10 +203,10 @@ fn every_list_of_five_cycles() {
 #[test]
 fn every_list_of_three_cycles() {
     let [_, _, threes, fours] = programs();
-    let pairs = 6 * 7 * 6;
+    let pairs = 8 * 7 * 8;
     assert_eq!(
         fours.len(),
-        7 * threes.len() + 6 * 2 * pairs + 2 * 6 * 6 * 6
+        7 * threes.len() + 6 * 2 * pairs + 2 * 8 * 8 * 8
     );
     check_cycles("every_list_of_three_cycles", &fours, 3);
 }
@@ -201,11 +215,89 @@ fn check_cycles(test: &str, programs: &[Part], cycles: usize) {
     let mut counts = Vec::new();
     for (executive, share) in shares(programs) {
         let mut tally = Tally::default();
-        begin_all(executive, &share, |rng, board, run| {
-            every_cycle(rng, &mut tally, (&board, &run), cycles)
-        });
+        begin_all(
+            executive,
+            &share,
+            [values(0), values(1)],
+            |rng, board, run| every_cycle(rng, &mut tally, (&board, &run), cycles),
+        );
         assert_eq!(tally.calls(), tally.offers + tally.running + tally.finished);
         counts.push(tally.counts());
     }
     assert_counts(file!(), test, &of_all_executives(&counts));
+}
+
+/// What contends in a PAR: GOALs over three variables with values 0 and 1, and those over the first
+/// two inside a MAINTAIN that the third breaks.
+fn contenders() -> Vec<Part> {
+    let goals = |variables: std::ops::Range<u8>| {
+        variables.flat_map(|variable| [goal(variable, 0), goal(variable, 1)])
+    };
+    let held = goals(0..2).map(|goal| maintain(equals(2, 0), goal));
+    goals(0..3).chain(held).collect()
+}
+
+/// Every PAR of up to so many contenders.
+fn contests(most: usize) -> Vec<Part> {
+    let mut lists: Vec<Vec<Part>> = vec![Vec::new()];
+    let mut parts = Vec::new();
+    for _ in 0..most {
+        lists = lists
+            .iter()
+            .flat_map(|list| contenders().into_iter().map(|one| with(list, one)))
+            .collect();
+        parts.extend(lists.iter().cloned().map(par));
+    }
+    parts
+}
+
+fn with(list: &[Part], one: Part) -> Vec<Part> {
+    let mut longer = list.to_vec();
+    longer.push(one);
+    longer
+}
+
+/// Every estimate in which each of three variables has a value that some GOALs want, or none wants:
+/// so each contest ends or goes on.
+fn estimates() -> impl Iterator<Item = [u8; 3]> {
+    let values = |bits: usize| [bits & 1, bits >> 1 & 1, bits >> 2];
+    (0..8).map(move |bits| values(bits).map(|bit| [0, 2][bit]))
+}
+
+/// An offer, every settling, and the offer after it.
+fn settle_contest(rng: &mut Rng, tally: &mut Tally, (mut board, mut run): (Board, Run)) {
+    let offer = Call::Offer { time: 0, room: 3 };
+    tally.note(&board.call(rng, &mut run, &offer));
+    for estimate in estimates() {
+        let mut board = board.clone();
+        let mut run = run.clone();
+        tally.note(&board.call(rng, &mut run, &settle(&estimate)));
+        if run.phase != Phase::Finished {
+            tally.note(&board.call(rng, &mut run, &offer));
+        }
+    }
+}
+
+/// Every PAR of up to four contenders, so that up to two variables are contested, before and after
+/// every settling, with the MAINTAINs broken and not.
+#[test]
+fn every_contest() {
+    let programs = contests(4);
+    assert_eq!(
+        programs.len(),
+        10 + 10 * 10 + 10 * 10 * 10 + 10_usize.pow(4)
+    );
+    let mut counts = Vec::new();
+    for (executive, share) in shares(&programs) {
+        let mut tally = Tally::default();
+        begin_all(
+            executive,
+            &share,
+            [[0, 0, 0], [0, 0, 1]],
+            |rng, board, run| settle_contest(rng, &mut tally, (board, run)),
+        );
+        assert_eq!(tally.calls(), tally.offers + tally.running + tally.finished);
+        counts.push(tally.counts());
+    }
+    assert_counts(file!(), "every_contest", &of_all_executives(&counts));
 }

@@ -1,6 +1,6 @@
 //! Calls of an executive that are compared with the unfolding in every byte.
 
-use gurvoke::answers::{self, ANSWERED, DONE, NO_VARIABLE};
+use gurvoke::answers::{self, ANSWERED, CONTESTED, DONE, NO_VARIABLE};
 use gurvoke::counts::{named, Counts};
 use gurvoke::executive::Executive;
 use gurvoke::hex::hex;
@@ -10,7 +10,11 @@ use gurvoke::record::{Phase, FINISHED, PHASE, RECORD_LEN};
 use gurvoke::refusals::{BUFFER_TOO_SHORT, NOTHING_AT_WORK};
 use gurvoke::rng::Rng;
 use gurvoke::runs::Call;
+use gurvoke::sizes::MAX_VARIABLES;
 use gurvoke::unfolding::{Offer, Program, Progress, Run};
+
+/// The last variable of a program with as many as allowed.
+pub const LAST_VARIABLE: u8 = MAX_VARIABLES as u8 - 1;
 
 /// The table of an accepted file.
 pub fn table_of(file: &[u8]) -> Vec<u8> {
@@ -119,13 +123,14 @@ impl Board {
     ) -> Given {
         let (answer, mut goals) = self.make(rng, call);
         self.record.expect(&run.record());
-        match &wanted {
-            Err(number) => assert_eq!(answer, *number, "{}", self.case()),
+        let number = match &wanted {
+            Err(number) => *number,
             Ok(offer) => {
                 goals.expect(&offer.goals);
-                self.assert_named(answer, offer);
+                ANSWERED + u32::from(offer.named.unwrap_or(NO_VARIABLE))
             }
-        }
+        };
+        assert_eq!(answer, number, "{}", self.case());
         self.assert_lent(&[&goals]);
         wanted.map_or_else(Given::Refused, Given::Offered)
     }
@@ -160,23 +165,6 @@ impl Board {
         if self.record.content()[PHASE] == FINISHED {
             self.finishing_cycle.get_or_insert(self.settlings);
         }
-    }
-
-    /// The executive names a variable that is contested, or none exactly where none is.
-    fn assert_named(&self, answer: u32, offer: &Offer) {
-        let named = answer
-            .checked_sub(ANSWERED)
-            .and_then(|named| u8::try_from(named).ok());
-        let right = named.is_some_and(|named| match offer.contested.is_empty() {
-            true => named == NO_VARIABLE,
-            false => offer.contested.contains(&named),
-        });
-        assert!(
-            right,
-            "answer {answer}, and contested are {:?}: {}",
-            offer.contested,
-            self.case()
-        );
     }
 
     /// All that was lent holds what it should, the table and the record too.
@@ -252,12 +240,33 @@ pub fn of_all_executives(counts: &[Counts]) -> Counts {
     all
 }
 
+/// How many offers found contested variables, and which of these they named.
+#[derive(Default)]
+struct Contested {
+    offers: u64,
+    /// Those of them with more than one.
+    several: u64,
+    /// Those of them that named the first variable, and the last there can be.
+    first: u64,
+    last: u64,
+}
+
+impl Contested {
+    fn note(&mut self, offer: &Offer) {
+        let variables = offer.goals.iter().filter(|&&byte| byte == CONTESTED);
+        self.offers += u64::from(offer.named.is_some());
+        self.several += u64::from(variables.count() > 1);
+        self.first += u64::from(offer.named == Some(0));
+        self.last += u64::from(offer.named == Some(LAST_VARIABLE));
+    }
+}
+
 /// How often each answer was given.
 #[derive(Default)]
 pub struct Tally {
     refusals: [u64; NOTHING_AT_WORK as usize + 1],
     pub offers: u64,
-    pub contested: u64,
+    contested: Contested,
     pub running: u64,
     pub finished: u64,
 }
@@ -268,7 +277,7 @@ impl Tally {
             Given::Refused(number) => self.refusals[*number as usize] += 1,
             Given::Offered(offer) => {
                 self.offers += 1;
-                self.contested += u64::from(!offer.contested.is_empty());
+                self.contested.note(offer);
             }
             Given::Settled(Progress::Running) => self.running += 1,
             Given::Settled(Progress::Finished) => self.finished += 1,
@@ -283,10 +292,14 @@ impl Tally {
 
     /// What was counted, as the list of counts names it.
     pub fn counts(&self) -> Counts {
+        let contested = &self.contested;
         let mut counts = named([
             ("calls", self.calls()),
             ("offers", self.offers),
-            ("offers with a contested variable", self.contested),
+            ("offers with a contested variable", contested.offers),
+            ("offers with several contested variables", contested.several),
+            ("offers that name variable 0", contested.first),
+            ("offers that name variable 31", contested.last),
             ("settlings that tell running", self.running),
             ("settlings that tell finished", self.finished),
         ]);
@@ -323,14 +336,22 @@ pub fn step_through(file: &[u8], first: &[u8], steps: impl Fn(&mut SteppedRun)) 
 }
 
 impl SteppedRun<'_> {
-    /// Offers at this time; the goal bytes must be these.
+    /// Offers at this time; the goal bytes must be these, and no variable be named.
     pub fn offer(&mut self, time: u32, goals: &[u8]) {
+        self.offer_that_names(None, time, goals);
+    }
+
+    /// Offers at this time; the goal bytes must be these, and this variable be named.
+    pub fn offer_naming(&mut self, variable: u8, time: u32, goals: &[u8]) {
+        self.offer_that_names(Some(variable), time, goals);
+    }
+
+    fn offer_that_names(&mut self, named: Option<u8>, time: u32, goals: &[u8]) {
         let room = goals.len();
         let given = self.call(Call::Offer { time, room });
-        let Given::Offered(offer) = given else {
-            panic!("offer at {time}: {given:?}: {}", self.board.case());
-        };
-        assert_eq!(offer.goals, goals, "{}", self.board.case());
+        let goals = goals.to_vec();
+        let wanted = Given::Offered(Offer { goals, named });
+        assert_eq!(given, wanted, "{}", self.board.case());
     }
 
     /// Settles with this estimate; the run must go on.

@@ -1,5 +1,6 @@
 //! Beginning, offering and settling: every executive against the paper and the unfolding.
 
+mod contested;
 mod exhaustive;
 mod harness;
 mod mars_entry;

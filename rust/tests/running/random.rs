@@ -140,6 +140,12 @@ fn doubtful_programs() {
     check_runs("doubtful_programs", 304, 30_000, runs::doubtful_program);
 }
 
+/// Programs made for offers with several contested variables.
+#[test]
+fn contending_programs() {
+    check_runs("contending_programs", 305, 20_000, runs::contending_program);
+}
+
 /// Small programs, in which a run comes to most places.
 #[test]
 fn small_programs() {

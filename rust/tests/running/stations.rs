@@ -70,7 +70,7 @@ fn station_4() {
 #[test]
 fn station_5() {
     step_through(&STATION_5, &[0], |run| {
-        run.offer(0, &[0xFE]);
+        run.offer_naming(0, 0, &[0xFE]);
         run.runs_on(&[1]);
         run.offer(0, &[0x02]);
     });

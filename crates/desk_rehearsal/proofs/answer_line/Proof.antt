@@ -40,7 +40,7 @@ add-parts-requires c κs =
     let after-shared-slice-known = heard .before .before .before .before .before in
     let start = after-shared-slice-known .before in
     let sizes = after-shared-slice-known .shared-slice-known .given in
-    answer-room _ _ _ _ _ _ _ _ (start .args .asked) _ _ _ _ _ (heard .parse-line .ensures) (counted .estimate-length .ensures) (called .is-call .ensures) (made .make-call .ensures) (sizes 0 .fits) (sizes 1 .fits)
+    answer-room _ _ _ _ _ _ _ _ (start .args .asked) _ _ _ _ _ (heard .parse-line .ensures) (counted .estimate-length .ensures) (called .is-call .ensures) (made .make-call .ensures .0) (made .make-call .ensures .1) (sizes 0 .fits) (sizes 1 .fits)
 
 same-length : tie.Need-same-length
 same-length c = search needs
@@ -58,7 +58,7 @@ returns c =
     let after-shared-slice-known = heard .before .before .before .before .before in
     let start = after-shared-slice-known .before in
     let sizes = after-shared-slice-known .shared-slice-known .given in
-    answer-made _ _ _ _ _ _ _ _ (start .args .asked) _ _ _ _ _ (heard .parse-line .ensures) (counted .estimate-length .ensures) (called .is-call .ensures) (made .make-call .ensures) (sizes 0 .fits) (sizes 1 .fits) _ _ (after-add-parts .add-parts .ensures)
+    answer-made _ _ _ _ _ _ _ _ (start .args .asked) _ _ _ _ _ (heard .parse-line .ensures) (counted .estimate-length .ensures) (called .is-call .ensures) (made .make-call .ensures .0) (made .make-call .ensures .1) (sizes 0 .fits) (sizes 1 .fits) _ _ (after-add-parts .add-parts .ensures)
 
 pub answer-line-spec : {M : Type 1} → statement M
 answer-line-spec =

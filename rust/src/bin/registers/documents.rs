@@ -194,7 +194,7 @@ fn lines_have_their_definitions() {
 #[test]
 fn lines_are_short() {
     let repository = Repository::here();
-    for document in repository.documents() {
+    for document in [repository.documents(), repository.notes()].concat() {
         let text = repository.read(&document);
         let mut in_sample = false;
         for line in text.lines() {

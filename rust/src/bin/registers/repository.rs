@@ -78,15 +78,25 @@ impl Repository {
         fs::write(self.top.join(path), text).unwrap_or_else(|error| panic!("{path}: {error}"));
     }
 
-    /// The paths of all documents.
+    /// The paths of all documents that say how things are.
     pub fn documents(&self) -> Vec<String> {
-        let mut found = vec!["README.md".to_string()];
-        for name in entries(&self.top.join("docs")) {
-            if name.ends_with(".md") {
-                found.push(format!("docs/{name}"));
-            }
-        }
+        let mut found = self.texts("docs");
+        found.push("README.md".to_string());
         found
+    }
+
+    /// The paths of the notes on requests: what they name was there when they were written.
+    #[cfg(test)]
+    pub fn notes(&self) -> Vec<String> {
+        self.texts("docs/requests")
+    }
+
+    fn texts(&self, folder: &str) -> Vec<String> {
+        let names = entries(&self.top.join(folder)).into_iter();
+        names
+            .filter(|name| name.ends_with(".md"))
+            .map(|name| format!("{folder}/{name}"))
+            .collect()
     }
 
     /// The files of a crate's folder.

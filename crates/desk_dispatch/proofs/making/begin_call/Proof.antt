@@ -1,6 +1,6 @@
 -- `begin_call` meets its contract: the answer of `begin` is written, and the count follows from it.
 use Rattle.desk_dispatch.proofs.Rooms.{begun-room}
-use Rattle.desk_dispatch.proofs.Calls.{begin-made}
+use Rattle.desk_dispatch.proofs.Calls.{begin-made, begin-left}
 use borrow.Author.Needs.{needs}
 use Rattle.desk_dispatch.proofs.making.begin_call.Statement.{statement}
 use Rattle.desk_dispatch.proofs.making.begin_call.Tie as tie
@@ -21,7 +21,7 @@ same-length-2 : tie.Need-same-length-2
 same-length-2 c = search needs
 
 returns : tie.Need-returns
-returns c = search begin-made
+returns c = (search begin-made, search begin-left)
 
 pub begin-call-spec : {M : Type 1} → statement M
 begin-call-spec =

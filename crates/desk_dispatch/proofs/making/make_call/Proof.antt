@@ -1,5 +1,5 @@
 -- `make_call` meets its contract: one law for each thing that a line can say.
-use Rattle.desk_dispatch.proofs.Said.{make-passed, make-begin, make-offer, make-offer-into, make-settle, make-no-call}
+use Rattle.desk_dispatch.proofs.Said.{make-passed, make-begin, make-offer, make-offer-into, make-settle, make-no-call, leaves-passed, leaves-begin, leaves-offer, leaves-offer-into, leaves-settle, leaves-no-call}
 use borrow.Author.Needs.{needs}
 use Rattle.desk_dispatch.proofs.making.make_call.Statement.{statement}
 use Rattle.desk_dispatch.proofs.making.make_call.Tie as tie
@@ -47,7 +47,7 @@ no-call-requires : tie.Need-no-call-requires
 no-call-requires c κs = search needs
 
 returns : tie.Need-returns
-returns c = search make-passed
+returns c = (search make-passed, search leaves-passed)
 
 same-length : tie.Need-same-length
 same-length c = search needs
@@ -56,7 +56,7 @@ same-length-2 : tie.Need-same-length-2
 same-length-2 c = search needs
 
 returns-2 : tie.Need-returns-2
-returns-2 c = search make-begin
+returns-2 c = (search make-begin, search leaves-begin)
 
 same-length-3 : tie.Need-same-length-3
 same-length-3 c = search needs
@@ -65,7 +65,7 @@ same-length-4 : tie.Need-same-length-4
 same-length-4 c = search needs
 
 returns-3 : tie.Need-returns-3
-returns-3 c = search make-offer
+returns-3 c = (search make-offer, search leaves-offer)
 
 same-length-5 : tie.Need-same-length-5
 same-length-5 c = search needs
@@ -74,7 +74,7 @@ same-length-6 : tie.Need-same-length-6
 same-length-6 c = search needs
 
 returns-4 : tie.Need-returns-4
-returns-4 c = search make-offer-into
+returns-4 c = (search make-offer-into, search leaves-offer-into)
 
 same-length-7 : tie.Need-same-length-7
 same-length-7 c = search needs
@@ -83,13 +83,13 @@ same-length-8 : tie.Need-same-length-8
 same-length-8 c = search needs
 
 returns-5 : tie.Need-returns-5
-returns-5 c = search make-settle
+returns-5 c = (search make-settle, search leaves-settle)
 
 same-length-9 : tie.Need-same-length-9
 same-length-9 c = search needs
 
 returns-6 : tie.Need-returns-6
-returns-6 c = search make-no-call
+returns-6 c = (search make-no-call, search leaves-no-call)
 
 pub make-call-spec : {M : Type 1} → statement M
 make-call-spec =

@@ -2,7 +2,7 @@
 use native.Mathlib.Omega.{arith}
 use lib.ListN.{length-take}
 use Rattle.desk_dispatch.specs.Making.{maxGoals}
-use Rattle.desk_dispatch.proofs.Calls.{offer-lent}
+use Rattle.desk_dispatch.proofs.Calls.{offer-lent, lent-left}
 use borrow.Author.Needs.{needs}
 use Rattle.desk_dispatch.proofs.making.offer_call.Statement.{statement}
 use Rattle.desk_dispatch.proofs.making.offer_call.Tie as tie
@@ -26,7 +26,7 @@ returns : tie.Need-returns
 returns c =
     let after-offer-into = c .before .before .before .before .before in
     let start = after-offer-into .before .before .before .before .before .before .before in
-    offer-lent _ _ _ _ _ _ _ maxGoals _ _ (start .pre) (after-offer-into .offer-into .ensures)
+    (offer-lent _ _ _ _ _ _ maxGoals _ _ (start .pre) (after-offer-into .offer-into .ensures .0), lent-left _ _ _ _ _ maxGoals (start .pre) (after-offer-into .offer-into .ensures .1))
 
 pub offer-call-spec : {M : Type 1} → statement M
 offer-call-spec =

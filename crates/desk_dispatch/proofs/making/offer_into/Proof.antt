@@ -1,6 +1,6 @@
 -- `offer_into` meets its contract: the answer of `offer` is written with the goal bytes that it has left.
 use Rattle.desk_dispatch.proofs.Rooms.{offered-room}
-use Rattle.desk_dispatch.proofs.Calls.{offer-call-made}
+use Rattle.desk_dispatch.proofs.Calls.{offer-made, offer-left}
 use borrow.Author.Needs.{needs}
 use Rattle.desk_dispatch.proofs.making.offer_into.Statement.{statement}
 use Rattle.desk_dispatch.proofs.making.offer_into.Tie as tie
@@ -24,7 +24,7 @@ same-length-3 : tie.Need-same-length-3
 same-length-3 c = search needs
 
 returns : tie.Need-returns
-returns c = search offer-call-made
+returns c = (search offer-made, search offer-left)
 
 pub offer-into-spec : {M : Type 1} → statement M
 offer-into-spec =

@@ -1,6 +1,6 @@
 -- `settle_call` meets its contract: the answer of `settle` is written, and the count follows from it.
 use Rattle.desk_dispatch.proofs.Rooms.{settled-room}
-use Rattle.desk_dispatch.proofs.Calls.{settle-made}
+use Rattle.desk_dispatch.proofs.Calls.{settle-made, settle-left}
 use borrow.Author.Needs.{needs}
 use Rattle.desk_dispatch.proofs.making.settle_call.Statement.{statement}
 use Rattle.desk_dispatch.proofs.making.settle_call.Tie as tie
@@ -21,7 +21,7 @@ same-length-2 : tie.Need-same-length-2
 same-length-2 c = search needs
 
 returns : tie.Need-returns
-returns c = search settle-made
+returns c = (search settle-made, search settle-left)
 
 pub settle-call-spec : {M : Type 1} → statement M
 settle-call-spec =

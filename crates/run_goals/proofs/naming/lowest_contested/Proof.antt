@@ -3,8 +3,8 @@ use borrow.Author.Needs.{needs}
 use Prim.Native.Nat.{_-_}
 use mathlib.Core.Path.{_≡_, refl}
 use Rattle.base.specs.Lists.{bytesAt}
-use Rattle.run_goals.specs.Merged.{lowestContested}
-use Rattle.run_goals.proofs.Names.{name-found, name-one, name-passed, name-none, name-starts}
+use Rattle.meaning.specs.Cycle.{lowestContested}
+use Rattle.run_goals.proofs.Searching.{name-found, name-one, name-passed, name-none, name-starts}
 use Rattle.run_goals.proofs.naming.lowest_contested.Statement.{statement}
 use Rattle.run_goals.proofs.naming.lowest_contested.Tie as tie
 
