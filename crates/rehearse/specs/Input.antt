@@ -51,7 +51,7 @@ abbrev pub linesAnswered : (t r : List ℕ) (asked : Bool) (input : List ℕ) (t
 linesAnswered t r asked input _ _ _ _ begun = []
 linesAnswered t r asked input _ _ _ _ (further turns r' input' r'' input'' s e before going takes) = linesAnswered t r asked input turns r' input' s before ++ linesTaken t r' asked input' s r'' input'' e takes
 
--- the texts that were written for these lines, each on the record and with the number that it was given
+-- the texts that `Answered` demands for these lines, each on the record and with the number that it was given
 abbrev pub textOf : List ℕ → List ℕ → Bool → Stand → List ℕ → List ℕ
 textOf t r asked s l = answerText t r (more (s .number)) asked (parsedLine l) (bytesOf l)
 

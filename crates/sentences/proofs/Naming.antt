@@ -28,17 +28,13 @@ Found v gs x = ((i : ℕ) × (x ≡ v + i) × (i < length gs) × ContestedIn gs 
 
 module _ (v b : ℕ) (bs : List ℕ) (x : ℕ) where
   -- where the first is not contested, the others decide
+  none-before : (b ≡ contested → ⊥) → (m : ℕ) → ((j : ℕ) → j < m → ContestedIn bs j → ⊥) → (j : ℕ) → j < suc m → ContestedIn (b ∷ bs) j → ⊥
+  none-before n m none zero k d = n d
+  none-before n m none (suc j) k d = none j (omega arith) d
+
   passed : (b ≡ contested → ⊥) → Found (suc v) bs x → Found v (b ∷ bs) x
-  passed n (inl (i, e, l, c, none)) = inl (suc i, omega arith, omega arith, c, before)
-    where
-      before : (j : ℕ) → j < suc i → ContestedIn (b ∷ bs) j → ⊥
-      before zero k d = n d
-      before (suc j) k d = none j (omega arith) d
-  passed n (inr (e, none)) = inr (e, before)
-    where
-      before : (j : ℕ) → j < length (b ∷ bs) → ContestedIn (b ∷ bs) j → ⊥
-      before zero k d = n d
-      before (suc j) k d = none j (omega arith) d
+  passed n (inl (i, e, l, c, none)) = inl (suc i, omega arith, omega arith, c, none-before n i none)
+  passed n (inr (e, none)) = inr (e, none-before n (length bs) none)
 
   first : (c : Bool) → eqb b contested ≡ c → Found (suc v) bs x → Found v (b ∷ bs) (cond c v x)
   first true e rest = inl (0, omega arith, omega arith, eqb-true b contested e, λ j k. absurd (omega arith))

@@ -4,8 +4,8 @@ use mathlib.Core.Bool.{true}
 use Rattle.meaning.proofs.Computed.{settle as settleCall}
 use Rattle.agreement.specs.Unfolding.{afresh, check, working, settle}
 use Rattle.agreement.specs.Runs.{treeNext, treeReply, tableFinishing, treeFinishing, lowestAtWork}
-use Rattle.stations.specs.Stations.{stations, further, lamps, sameReply, sameReplies, byTable, byTree, holds, allHold}
+use Rattle.stations.specs.Stations.{stations, further, contestedStations, sameReply, sameReplies, byTable, byTree, holds, allHold}
 
 pub ten-stations : allHold ≡ true
-unfolding stations further lamps lowestAtWork tableFinishing treeFinishing sameReply sameReplies byTable byTree holds settleCall afresh check working settle treeNext treeReply
+unfolding stations further contestedStations lowestAtWork tableFinishing treeFinishing sameReply sameReplies byTable byTree holds settleCall afresh check working settle treeNext treeReply
 ten-stations = refl

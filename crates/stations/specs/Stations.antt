@@ -128,8 +128,8 @@ further =
 -- "The offer now names the lowest-numbered contested variable" (document 02, R-1). PAR(GOAL 2=1, GOAL 2=2, GOAL 1=1, GOAL 1=2, GOAL 1=1, GOAL 0=5):
 -- of 3 variables 1 and 2 are contested, then 2 alone, then none. PAR(GOAL 31=1, GOAL 31=2, GOAL 0=1, GOAL 0=2): of 32 variables the first and the
 -- last, then the last alone
-abbrev pub threeLamps : List ℕ
-threeLamps =
+abbrev pub threeVariables : List ℕ
+threeVariables =
     7 ∷ 3 ∷ 0
     ∷ 5 ∷ 1 ∷ 1 ∷ 1 ∷ 1 ∷ 1 ∷ 1
     ∷ 6 ∷ 0 ∷ 0 ∷ 0
@@ -141,8 +141,8 @@ threeLamps =
     ∷ 0 ∷ 0 ∷ 5 ∷ 0
     ∷ []
 
-abbrev pub outerLamps : List ℕ
-outerLamps =
+abbrev pub firstAndLast : List ℕ
+firstAndLast =
     5 ∷ 32 ∷ 0
     ∷ 5 ∷ 1 ∷ 1 ∷ 1 ∷ 1
     ∷ 4 ∷ 0 ∷ 0 ∷ 0
@@ -152,12 +152,12 @@ outerLamps =
     ∷ 0 ∷ 0 ∷ 2 ∷ 0
     ∷ []
 
-unfoldable pub lamps : List Station
-lamps =
-    clocklessStation threeLamps (0 ∷ 0 ∷ 0 ∷ [])
+unfoldable pub contestedStations : List Station
+contestedStations =
+    clocklessStation threeVariables (0 ∷ 0 ∷ 0 ∷ [])
     (offer 0 (replicate 3 7) ∷ settling (0 ∷ 2 ∷ 0 ∷ []) ∷ offer 0 (replicate 3 7) ∷ settling (0 ∷ 2 ∷ 1 ∷ []) ∷ offer 0 (replicate 3 7) ∷ [])
     (goals (5 ∷ contested ∷ contested ∷ []) 1 ∷ running ∷ goals (5 ∷ 1 ∷ contested ∷ []) 2 ∷ running ∷ goals (5 ∷ 1 ∷ 2 ∷ []) noVariable ∷ [])
-    ∷ clocklessStation outerLamps (replicate 32 0)
+    ∷ clocklessStation firstAndLast (replicate 32 0)
     (offer 0 (replicate 32 7) ∷ settling (1 ∷ replicate 31 0) ∷ offer 0 (replicate 32 7) ∷ [])
     (goals (contested ∷ replicate 30 noGoal ++ (contested ∷ [])) 0 ∷ running ∷ goals (2 ∷ replicate 30 noGoal ++ (contested ∷ [])) 31 ∷ [])
     ∷ []
@@ -228,7 +228,7 @@ unfoldable pub holds : Station → Bool
 holds x = eqb (programRefusal File (x .file)) (x .answer) && cond (eqb (x .answer) 0) (byTable x && byTree x (treeOf File (x .file))) true
 
 abbrev pub allHold : Bool
-allHold = all holds stations && (same (compiled File waits) table10 && (all holds further && all holds lamps))
+allHold = all holds stations && (same (compiled File waits) table10 && (all holds further && all holds contestedStations))
 
 -- Stations 2 and 3 for all: "any settling finishes" after an offer at any time, with any estimate that is allowed; "goals 01 at any first time"
 abbrev pub finishesWith : ℕ → ℕ → Station
