@@ -1,7 +1,8 @@
 /*
  * The ten stations of document 01, its refusals, the misreadings that it names and some further
- * programs, those of document 02's request R-1 among them, as calls with what each must answer and
- * every byte that it must leave. It runs on any library with this header, and needs nothing else:
+ * programs, those of document 02's requests R-1 and R-2 among them, as calls with what each must
+ * answer and every byte that it must leave. It runs on any library with this header, and needs
+ * nothing else:
  *
  *   gcc -Iinclude examples/stations.c LIBRARY -o stations && ./stations
  *
@@ -63,7 +64,8 @@ struct step {
 #define OFFER_REFUSED(time, room, no) {OFFER, "", "", time, room, no}
 #define SETTLE_REFUSED(estimate, no) {SETTLE, estimate, "", 0, 0, no}
 
-/* The next settling starts a clock. The run has finished in so many cycles, or in none yet (0). */
+/* The next settling starts a clock, or starts it again. The run has finished in so many cycles, or
+ * in none yet (0). */
 #define STARTS(clock, start) {CLOCK, "", "", clock, start, 0}
 #define FINISHED_IN(cycles) {CYCLES, "", "", cycles, 0, 0}
 
@@ -191,6 +193,7 @@ static const struct step steps[] = {
     STARTS(0, 10),
     RUNNING("00", "101"),
     OFFERED(20, "FF", "101"),
+    STARTS(0, 20),
     FINISHED("00", "000"),
     FINISHED_IN(2),
 
@@ -507,6 +510,35 @@ static const struct step steps[] = {
     OFFERED(8, "FF", "10"),
     FINISHED("00", "00"),
     FINISHED_IN(1),
+    /* SEQ(START 0, PAR(MAINTAIN(0=0, START 0), START 1)), two clocks: clock 0 keeps its start, and
+     * the START outside starts clock 1 */
+    COMPILED("06 01 02  04 02 05 06 02 02"
+             "02 00 00 00  00 00 00 00  02 00 00 00  01 00 00 00  00 00 00 00  00 01 00 00",
+             "06 01 02"
+             "04 06 FF FF 02 00 00 00"
+             "02 02 00 02 00 00 00 00"
+             "05 06 00 FF 02 00 00 00"
+             "06 05 02 FF 01 00 00 00"
+             "02 05 03 FF 00 00 00 00"
+             "02 06 02 FF 00 01 00 00"),
+    BEGUN("00", "110000"),
+    OFFERED(10, "FF", "110000"),
+    STARTS(0, 10),
+    RUNNING("01", "101111"),
+    OFFERED(20, "FF", "101101"),
+    STARTS(1, 20),
+    FINISHED("00", "000000"),
+    FINISHED_IN(2),
+    /* and where it does not break, the START inside it sets clock 0 */
+    BEGUN("00", "110000"),
+    OFFERED(10, "FF", "110000"),
+    STARTS(0, 10),
+    RUNNING("00", "101111"),
+    OFFERED(20, "FF", "101111"),
+    STARTS(0, 20),
+    STARTS(1, 20),
+    FINISHED("01", "000000"),
+    FINISHED_IN(2),
 
     STATION("a START that is newly marked starts no clock"), /* SEQ(GOAL 0=1, START 0) */
     COMPILED("03 01 01  04 01 02  02 00 00 00  00 00 01 00  00 00 00 00",
@@ -548,8 +580,8 @@ static const struct step steps[] = {
 
     STATION("a REPEAT beside a WAIT"),
     /* PAR(WAIT clock 0 at least 20, REPEAT(SEQ(START 0, CHOICE(clock 0 at least 10; GOAL 0=1;
-     * GOAL 0=2)))): the CHOICE decides twice, ends with its branch each time, and the clock that is
-     * started keeps its start */
+     * GOAL 0=2)))): the CHOICE decides in each round, by that round's start, and ends with its
+     * branch; the WAIT ends when 20 seconds have gone by since the last start */
     COMPILED("08 01 01  05 03 08 04 02 07 01 01"
              "02 00 00 00  03 00 14 00  00 00 00 00  02 00 00 00"
              "00 00 00 00  03 00 0A 00  00 00 01 00  00 00 02 00",
@@ -570,13 +602,127 @@ static const struct step steps[] = {
     RUNNING("00", "11110101"),
     OFFERED(15, "02", "11110101"),
     RUNNING("02", "11111000"),
-    OFFERED(24, "FF", "11111000"), /* the clock reads 19 */
+    OFFERED(24, "FF", "11111000"), /* it reads 19: the WAIT waits, and the clock is started again */
+    STARTS(0, 24),
     RUNNING("00", "11110100"),
-    OFFERED(25, "FF", "11110100"), /* it reads 20: the WAIT ends, and the first child */
-    RUNNING("00", "10110110"),
-    OFFERED(25, "01", "10110110"),
+    OFFERED(33, "FF", "11110100"), /* it reads 9: the second child again */
+    RUNNING("00", "11110101"),
+    OFFERED(33, "02", "11110101"),
+    RUNNING("02", "11111000"),
+    OFFERED(43, "FF", "11111000"), /* it reads 19 */
+    STARTS(0, 43),
+    RUNNING("00", "11110100"),
+    OFFERED(53, "FF", "11110100"), /* it reads 10: the first child */
+    RUNNING("00", "11110110"),
+    OFFERED(62, "01", "11110110"), /* it reads 19 */
+    RUNNING("00", "11110110"),
+    OFFERED(63, "01", "11110110"), /* it reads 20: the WAIT ends, and the next round begins */
     RUNNING("01", "10111000"),
+    OFFERED(63, "FF", "10111000"),
+    STARTS(0, 63),
+    RUNNING("01", "10110100"),
     FINISHED_IN(0),
+
+    STATION("a START beside a WAIT on its clock"),
+    /* SEQ(START 0, PAR(START 0, WAIT clock 0 at least 5)): in the cycle of the second START the WAIT
+     * reads the first start, */
+    COMPILED("05 01 01  04 02 05 02 03"
+             "02 00 00 00  00 00 00 00  02 00 00 00  00 00 00 00  03 00 05 00",
+             "05 01 01"
+             "04 05 FF FF 02 00 00 00"
+             "02 02 00 02 00 00 00 00"
+             "05 05 00 FF 02 00 00 00"
+             "02 04 02 FF 00 00 00 00"
+             "03 05 02 FF 03 00 05 00"),
+    BEGUN("00", "11000"),
+    OFFERED(10, "FF", "11000"),
+    STARTS(0, 10),
+    RUNNING("00", "10111"),
+    OFFERED(15, "FF", "10111"), /* the clock reads 5 */
+    STARTS(0, 15),
+    FINISHED("00", "00000"),
+    FINISHED_IN(2),
+    /* and from the next cycle on the second */
+    BEGUN("00", "11000"),
+    OFFERED(10, "FF", "11000"),
+    STARTS(0, 10),
+    RUNNING("00", "10111"),
+    OFFERED(14, "FF", "10111"), /* it reads 4 */
+    STARTS(0, 14),
+    RUNNING("00", "10101"),
+    OFFERED(18, "FF", "10101"), /* 4 */
+    RUNNING("00", "10101"),
+    OFFERED(19, "FF", "10101"), /* 5 */
+    FINISHED("00", "00000"),
+    FINISHED_IN(4),
+    /* SEQ(START 0, PAR(WAIT clock 0 below 5, START 0)), the same with the WAIT first */
+    COMPILED("05 01 01  04 02 05 03 02"
+             "02 00 00 00  00 00 00 00  02 00 00 00  04 00 05 00  00 00 00 00",
+             "05 01 01"
+             "04 05 FF FF 02 00 00 00"
+             "02 02 00 02 00 00 00 00"
+             "05 05 00 FF 02 00 00 00"
+             "03 04 02 FF 04 00 05 00"
+             "02 05 02 FF 00 00 00 00"),
+    BEGUN("00", "11000"),
+    OFFERED(10, "FF", "11000"),
+    STARTS(0, 10),
+    RUNNING("00", "10111"),
+    OFFERED(15, "FF", "10111"), /* it reads 5 */
+    STARTS(0, 15),
+    RUNNING("00", "10110"),
+    OFFERED(19, "FF", "10110"), /* 4 */
+    FINISHED("00", "00000"),
+    FINISHED_IN(3),
+
+    STATION("a limit from the start of each round"),
+    /* MAINTAIN(clock 0 below 5, REPEAT(START 0)): it breaks at the offer 5 seconds after the last
+     * start, and that stays */
+    COMPILED("03 01 01  06 08 02  04 00 05 00  00 00 00 00  00 00 00 00",
+             "03 01 01"
+             "06 03 FF FF 04 00 05 00"
+             "08 03 00 FF 00 00 00 00"
+             "02 03 01 02 00 00 00 00"),
+    BEGUN("00", "111"),
+    OFFERED(10, "FF", "111"),
+    STARTS(0, 10),
+    RUNNING("00", "111"),
+    OFFERED(14, "FF", "111"),
+    STARTS(0, 14),
+    RUNNING("00", "111"),
+    OFFERED(18, "FF", "111"),
+    STARTS(0, 18),
+    RUNNING("00", "111"),
+    OFFERED(18, "FF", "111"), /* the time stands still, and so does the start */
+    RUNNING("00", "111"),
+    OFFERED(23, "FF", "100"),
+    FINISHED("00", "000"),
+    FINISHED_IN(5),
+
+    STATION("the last clock and the last time"),
+    /* SEQ(START 15, PAR(START 14, START 14), START 15), 16 clocks */
+    COMPILED("06 01 10  04 02 05 02 02 02"
+             "03 00 00 00  00 0F 00 00  02 00 00 00  00 0E 00 00  00 0E 00 00  00 0F 00 00",
+             "06 01 10"
+             "04 06 FF FF 03 00 00 00"
+             "02 02 00 02 00 0F 00 00"
+             "05 05 00 05 02 00 00 00"
+             "02 04 02 FF 00 0E 00 00"
+             "02 05 02 FF 00 0E 00 00"
+             "02 06 00 FF 00 0F 00 00"),
+    BEGUN("00", "110000"),
+    OFFERED(0, "FF", "110000"),
+    STARTS(15, 0),
+    RUNNING("00", "101110"),
+    OFFERED(16909060, "FF", "101110"),
+    STARTS(14, 16909060),
+    RUNNING("00", "100001"),
+    SETTLE_REFUSED("00", 11),
+    OFFERED(4294967295u, "FF", "100001"),
+    SETTLE_REFUSED("FB", 13), /* a refused settling starts nothing */
+    STARTS(15, 4294967295u),
+    FINISHED("00", "000000"),
+    FINISHED_IN(3),
 
     STATION("the longest program"), /* a SEQ of 199 GOALs, a cycle for each */
     LONGEST_PROGRAM,

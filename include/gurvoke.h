@@ -59,9 +59,11 @@ extern "C" {
  * number.
  *
  * 1.1  An offer names the lowest-numbered contested variable; in 1.0 it could be any of them.
+ * 2.0  Every marked START sets its clock to the cycle's time; in 1.1 a started clock kept its start.
+ *      The layout of files, tables and records is that of 1.1.
  */
-#define GURVOKE_VERSION_MAJOR 1
-#define GURVOKE_VERSION_MINOR 1
+#define GURVOKE_VERSION_MAJOR 2
+#define GURVOKE_VERSION_MINOR 0
 
 /*
  * The most parts, variables and clocks of a program, the depth of its deepest part (the root has
@@ -119,7 +121,7 @@ extern "C" {
 
 /*
  * A run record: the phase, the last time, the estimate (a byte for each variable), which clocks are
- * started (a byte for each), when they were started (a time for each), and the marks (a byte for
+ * started (a byte for each), when they were last started (a time for each), and the marks (a byte for
  * each part), at these places. GURVOKE_RECORD is its length in bytes. It has room for the most
  * variables, clocks and parts; what a program does not have is 0.
  */
@@ -242,8 +244,9 @@ uint32_t gurvoke_offer(const uint8_t *table, size_t table_len, uint8_t *record, 
 
 /*
  * Settles the cycle with the new estimate, one byte for each variable, at most GURVOKE_MAX_VALUE.
- * Further bytes of `record` stay as they are. Answers a refusal (9, 10, 14, 11, 13, 15),
- * GURVOKE_RUNNING or GURVOKE_FINISHED.
+ * Every START that is marked before it sets its clock to the cycle's time, whether or not the clock is
+ * started; conditions are judged by the clocks as they were before. Further bytes of `record` stay as
+ * they are. Answers a refusal (9, 10, 14, 11, 13, 15), GURVOKE_RUNNING or GURVOKE_FINISHED.
  */
 uint32_t gurvoke_settle(const uint8_t *table, size_t table_len, uint8_t *record, size_t record_len,
                         const uint8_t *estimate, size_t estimate_len);

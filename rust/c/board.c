@@ -2,10 +2,10 @@
  * A plain executive over the location table: the five functions of include/gurvoke.h under another
  * prefix, with the same answers and buffers.
  *
- * It is written from document 01 and from document 02's R-1, with nothing proved, as one would write
- * it for a board. The tests of the library run on it too, and bin/performance compares the library's
- * cost with its cost. It is one file, so that the compiler has all of it at hand, as it has all of the
- * library.
+ * It is written from document 01 and from document 02's R-1 and R-2, with nothing proved, as one would
+ * write it for a board. The tests of the library run on it too, and bin/performance compares the
+ * library's cost with its cost. It is one file, so that the compiler has all of it at hand, as it has
+ * all of the library.
  */
 #include <stdbool.h>
 #include <stddef.h>
@@ -620,7 +620,7 @@ static bool goes_on(const uint8_t *table, const uint8_t *marks)
     return false;
 }
 
-/* A marked START starts its clock at the last time, unless that clock is started. */
+/* Every marked START sets its clock to the cycle's time. */
 static void start_clocks(const uint8_t *table, uint8_t *record)
 {
     unsigned parts = table[PARTS];
@@ -630,10 +630,8 @@ static void start_clocks(const uint8_t *table, uint8_t *record)
         if (record[MARKS + part] == 0 || row[KIND] != START)
             continue;
         unsigned clock = row[OPERAND + 1];
-        if (record[STARTED + clock] == 0) {
-            record[STARTED + clock] = 1;
-            write_time(record + STARTS + TIME_LEN * clock, time);
-        }
+        record[STARTED + clock] = 1;
+        write_time(record + STARTS + TIME_LEN * clock, time);
     }
 }
 

@@ -10,7 +10,7 @@ pub const TIME: usize = PHASE + 1;
 pub const ESTIMATE: usize = TIME + TIME_LEN;
 /// Which clocks are started, one byte for each clock that a program can have.
 pub const STARTED: usize = ESTIMATE + MAX_VARIABLES;
-/// The times at which the clocks were started.
+/// The times at which the clocks were last started.
 pub const STARTS: usize = STARTED + MAX_CLOCKS;
 /// The marks, one byte for each part that a program can have.
 pub const MARKS: usize = STARTS + TIME_LEN * MAX_CLOCKS;

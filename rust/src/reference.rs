@@ -1,9 +1,9 @@
 //! A plain executive over the location table, with the answers and buffers of the C interface.
 //!
 //! It is written from document 01's "Location table", "Run record" and "One cycle over the table" and
-//! from document 02's R-1, in the order of their sentences and with nothing proved: slices, loops and
-//! local arrays, as one would write it for a board. The tests of the library run on it too, and
-//! `bin/performance` compares the library's cost with its cost.
+//! from document 02's, in the order of their sentences and with nothing proved: slices,
+//! loops and local arrays, as one would write it for a board. The tests of the library run on it too,
+//! and `bin/performance` compares the library's cost with its cost.
 
 mod program;
 mod table;
@@ -242,7 +242,7 @@ impl Table<'_> {
         })
     }
 
-    /// A marked START starts its clock at the last time unless that clock is started.
+    /// Every marked START sets its clock to the cycle's time.
     fn start_clocks(&self, record: &mut Record) {
         let time = time_at(record, TIME);
         for part in 0..self.sizes.parts {
@@ -250,11 +250,9 @@ impl Table<'_> {
                 continue;
             }
             let clock = usize::from(self.operand(part)[1]);
-            if record[STARTED + clock] == 0 {
-                record[STARTED + clock] = 1;
-                let place = start_place(clock);
-                record[place..place + TIME_LEN].copy_from_slice(&time.to_le_bytes());
-            }
+            let place = start_place(clock);
+            record[STARTED + clock] = 1;
+            record[place..place + TIME_LEN].copy_from_slice(&time.to_le_bytes());
         }
     }
 

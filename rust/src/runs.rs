@@ -5,6 +5,7 @@
 mod any_state;
 mod findings;
 mod programs;
+mod starts;
 
 use crate::answers::NO_GOAL;
 use crate::parts::{Condition, Test};
@@ -15,7 +16,8 @@ use crate::unfolding::{Program, Run, Tree};
 
 pub use any_state::any_state;
 pub use findings::{findings, Findings};
-pub use programs::{contending_program, doubtful_program, program, program_of};
+pub use programs::{contending_program, doubtful_program, program, program_of, restarting_program};
+pub use starts::{StartCounts, Starts};
 
 /// A call of a run.
 #[derive(Clone, Debug, PartialEq, Eq)]

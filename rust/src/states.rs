@@ -40,7 +40,7 @@ fn front(entries: &[u8], count: usize) -> Option<&[u8]> {
     beyond.iter().all(|&entry| entry == 0).then_some(front)
 }
 
-/// When each clock was started, if flags and times fit each other.
+/// When each clock was last started, if flags and times fit each other.
 fn clocks(bytes: &[u8], count: usize) -> Option<Vec<Option<u32>>> {
     let flags = &bytes[record::STARTED..record::STARTS];
     let mut clocks = Vec::new();

@@ -1,9 +1,9 @@
 //! A run by unfolding the program's tree: no table, no rows and no marks.
 //!
 //! It is written from nothing but document 01's "Unfolding the tree" and "The two runs of demand 3"
-//! and document 02's R-1, and shares nothing with the library or with the executive over the table.
-//! The state is what these sections name: phase, last time, estimate, clocks, and what remains of the
-//! tree.
+//! and document 02's, and shares nothing with the library or with the executive over the
+//! table. The state is what these sections name: phase, last time, estimate, clocks, and what remains
+//! of the tree.
 
 mod tree;
 
@@ -59,7 +59,7 @@ pub struct Run<'a> {
     pub phase: Phase,
     pub time: u32,
     pub estimate: Vec<u8>,
-    /// When each clock was started, where it was.
+    /// When each clock was started last, where it was.
     pub clocks: Vec<Option<u32>>,
     /// What remains of the tree: nothing once the root has ended.
     pub rest: Option<Rest>,
@@ -148,7 +148,8 @@ impl<'a> Run<'a> {
         }
     }
 
-    /// The clocks with those started that were not and that this cycle starts.
+    /// The clocks after this cycle: every START at work sets its clock to the cycle's time, whether or
+    /// not the clock is started.
     fn clocks_after(&self) -> Vec<Option<u32>> {
         let mut starts = Vec::new();
         if let Some(rest) = &self.rest {
@@ -156,7 +157,7 @@ impl<'a> Run<'a> {
         }
         let mut clocks = self.clocks.clone();
         for clock in starts {
-            clocks[clock].get_or_insert(self.time);
+            clocks[clock] = Some(self.time);
         }
         clocks
     }

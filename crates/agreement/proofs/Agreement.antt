@@ -19,18 +19,20 @@ use Rattle.meaning.specs.Tree.{Part, size}
 use Rattle.meaning.specs.Program.{variables, clocks, parts, entryAllowed, Within, programRefusal}
 use Rattle.meaning.specs.Table.{tableOf, compiled, isTable}
 use Rattle.meaning.specs.Conditions.{Situation}
-use Rattle.meaning.specs.Record.{waiting, offered, finished, recordBytes, recordLength, rootAllowed, partsAllowed, recordAllowed, clockAllowed}
-use Rattle.meaning.specs.Cycle.{initialMarks, beginRefusal, begunInto, leavesFrom, goalBytes, rootEnded, worksFrom, estimateAllowed, offerRefusal, checkedMarks, offeredRecord, offeredGoals, offeredName, offeredInto, goalsInto, settledMarks, settleRefusal, settledRecord, settledInto, clockFlags, clockStarts}
+use Rattle.meaning.specs.Record.{waiting, offered, finished, recordBytes, recordLength, startedFlag, rootAllowed, partsAllowed, recordAllowed, clockAllowed}
+use Rattle.meaning.specs.Cycle.{initialMarks, beginRefusal, begunInto, leavesFrom, goalBytes, rootEnded, worksFrom, estimateAllowed, offerRefusal, checkedMarks, offeredRecord, offeredGoals, offeredName, offeredInto, goalsInto, settledMarks, settleRefusal, settledRecord, settledInto, clocksAfter}
 use Rattle.meaning.specs.Answers.{bufferTooShort, wrongPhase, timeBeforeLast, estimateNotAllowed, runFinished}
 use Rattle.meaning.proofs.Files.{accepted-file}
 use Rattle.meaning.proofs.Tables.{table-holds, table-accepted, tree-table, compiled-is}
 use Rattle.meaning.proofs.Entries.{length-goals}
-use Rattle.meaning.proofs.Records.{Fits, judged, phase-read, time-read, estimate-read, started-read, starts-read, begin-tests, begun-fits, begun-bytes, clocks-begun, estimate-fits, checked-marks, settled-record-marks, offered-bytes, offered-fits, settled-bytes, settled-fits, record-allowed, flags-small, clocks-settled, clock-later}
+use Rattle.meaning.proofs.Clocks.{flags-small, clocks-settled}
+use Rattle.meaning.proofs.Records.{Fits, judged, phase-read, time-read, estimate-read, started-read, starts-read, begin-tests, begun-fits, begun-bytes, clocks-begun, estimate-fits, checked-marks, settled-record-marks, offered-bytes, offered-fits, settled-bytes, settled-fits, record-allowed, clock-later}
 use Rattle.meaning.proofs.Refusals.{begin-refused}
 use Rattle.meaning.proofs.Lies.{Lies, root-lies}
 use Rattle.agreement.specs.Unfolding.{Rest, afresh, check, working, settle}
-use Rattle.agreement.specs.Runs.{Call, offer, settling, Reply, refused, goals, running, done, tableReply, tableNext, State, begin, Fed, fed, offering, settled, refusalOf, workingOf, phaseFor, treeNext, treeReply, acceptedReply, lowestAtWork, settledState, possible, Alike, settlingCount, tableFinishing, treeFinishing, Timed, RunsAlike}
+use Rattle.agreement.specs.Runs.{Call, offer, settling, Reply, refused, goals, running, done, tableReply, tableNext, State, begin, Fed, fed, offering, settled, refusalOf, workingOf, phaseFor, treeNext, treeReply, acceptedReply, lowestAtWork, startEach, settledState, possible, Alike, settlingCount, tableFinishing, treeFinishing, Timed, RunsAlike}
 use Rattle.agreement.proofs.Contested.{names-alike}
+use Rattle.agreement.proofs.Starts.{each-started}
 use Rattle.agreement.proofs.AtWork.{all-working, small-values}
 use Rattle.agreement.proofs.Shapes.{length-marks}
 use Rattle.agreement.proofs.Passes.{leaves-blank, leaves-whole, check-whole, initial-lies}
@@ -185,9 +187,9 @@ module _ (v k : ℕ) (p : Part) (w : Within v k p) where
 
   -- One call: the same reply, a record that holds the next state, and a state that a run comes to
   record Stepped (r : List ℕ) (st : State p) (more : List ℕ) (c : Call) : Type 0 where
-    replied : tableReply t r c ≡ treeReply p v k st (fed c)
-    holding : tableNext t r c ≡ recordIn (treeNext p v k st (fed c)) more
-    good : GoodState (treeNext p v k st (fed c))
+    replied : tableReply t r c ≡ treeReply p v st (fed c)
+    holding : tableNext t r c ≡ recordIn (treeNext p v st (fed c)) more
+    good : GoodState (treeNext p v st (fed c))
 
   module _ (phase time : ℕ) (est started starts : List ℕ) (r : Rest p) (g : Good phase time est started starts (some r)) (more : List ℕ) where
     abbrev now-held : List ℕ
@@ -219,19 +221,23 @@ module _ (v k : ℕ) (p : Part) (w : Within v k p) where
       abbrev at-end : Situation
       at-end = judged new started starts time
 
-      settled-held : settledRecord t now-held new
-          ≡ held (phaseFor p (settle at-end p r)) time new (clockFlags k (working p r) started) (clockStarts k (working p r) started starts time) (settle at-end p r) more
-      unfolding tableOf
-      settled-held = settled-bytes (g .fits) phase more new long ∙ rw (settle-root t at-end p lies r, leaves-root (some r), phase-after (settle at-end p r))
+      flags-each : startEach startedFlag (working p r) started ≡ clocksAfter (clocks t) (working p r) startedFlag started
+      flags-each = each-started startedFlag (working p r) started (clocks t) (g .fits .shape .started-is)
 
-      settled-good : Good (phaseFor p (settle at-end p r)) time new (clockFlags k (working p r) started) (clockStarts k (working p r) started starts time) (settle at-end p r)
-      unfolding tableOf
+      starts-each : startEach time (working p r) starts ≡ clocksAfter (clocks t) (working p r) time starts
+      starts-each = each-started time (working p r) starts (clocks t) (g .fits .shape .starts-are)
+
+      settled-held : settledRecord t now-held new
+          ≡ held (phaseFor p (settle at-end p r)) time new (startEach startedFlag (working p r) started) (startEach time (working p r) starts) (settle at-end p r) more
+      settled-held = settled-bytes (g .fits) phase more new (long ∙ sym variables-are) ∙ rw (settle-root t at-end p lies r, leaves-root (some r), phase-after (settle at-end p r), flags-each, starts-each)
+
+      settled-good : Good (phaseFor p (settle at-end p r)) time new (startEach startedFlag (working p r) started) (startEach time (working p r) starts) (settle at-end p r)
       settled-good =
           record {
-            fits = rw (settle-root t at-end p lies r, leaves-root (some r)) at (settled-fits (g .fits) new long);
-            flags = flags-small k (working p r) started;
+            fits = rw (settle-root t at-end p lies r, leaves-root (some r), ← flags-each, ← starts-each) at (settled-fits (g .fits) new (long ∙ sym variables-are));
+            flags = rw flags-each (flags-small (clocks t) (working p r) started (g .fits .shape .started-is) (g .flags));
             small = small-new;
-            ticking = clocks-settled k (working p r) started starts time (g .ticking);
+            ticking = rw (flags-each, starts-each) (clocks-settled (clocks t) (working p r) started starts time (g .ticking));
             phased = phase-next at-end r;
           }
 
@@ -340,14 +346,14 @@ module _ (v k : ℕ) (p : Part) (w : Within v k p) where
   others-timed (offer now buffer) cs h = h .1
   others-timed (settling new) cs h = h
 
-  finishing-alike : (cs : List Call) (st : State p) (more : List ℕ) (n : ℕ) → GoodState st → Timed cs → tableFinishing t (recordIn st more) n cs ≡ treeFinishing p v k st n cs
+  finishing-alike : (cs : List Call) (st : State p) (more : List ℕ) (n : ℕ) → GoodState st → Timed cs → tableFinishing t (recordIn st more) n cs ≡ treeFinishing p v st n cs
   unfolding tableFinishing treeFinishing
   finishing-alike [] st more n g h = rw (phase-read (g .fits) (st .phase) more)
   finishing-alike (c ∷ cs) st more n g h =
       let s = step st more c g (first-timed c cs h) in
       rw (phase-read (g .fits) (st .phase) more, s .replied, s .holding)
       (ap (λ (o : Option ℕ). cond (eqb (st .phase) finished) (some n) o)
-      (finishing-alike cs (treeNext p v k st (fed c)) more (n + settlingCount (treeReply p v k st (fed c))) (s .good) (others-timed c cs h)))
+      (finishing-alike cs (treeNext p v st (fed c)) more (n + settlingCount (treeReply p v st (fed c))) (s .good) (others-timed c cs h)))
 
   -- what a refusal's number can be
   refusal-possible : (st : State p) (c : Fed) → possible (refused (refusalOf p v st c)) ≡ true
@@ -356,18 +362,18 @@ module _ (v k : ℕ) (p : Part) (w : Within v k p) where
   refusal-possible st (settled new) =
       failing-passes (λ n. possible (refused n)) ((runFinished, not (eqb (st .phase) finished)) ∷ (wrongPhase, not (eqb (st .phase) waiting)) ∷ (estimateNotAllowed, estimateAllowed v new) ∷ []) refl refl
 
-  given-possible : (st : State p) (c : Fed) → possible (acceptedReply p v k st c) ≡ true
+  given-possible : (st : State p) (c : Fed) → possible (acceptedReply p v st c) ≡ true
   given-possible st (offering now room) = refl
-  given-possible st (settled new) = cond-map possible (eqb (settledState p st k new .phase) finished) done running ∙ cond-same (eqb (settledState p st k new .phase) finished) true
+  given-possible st (settled new) = cond-map possible (eqb (settledState p st new .phase) finished) done running ∙ cond-same (eqb (settledState p st new .phase) finished) true
 
-  reply-possible : (st : State p) (c : Fed) → possible (treeReply p v k st c) ≡ true
+  reply-possible : (st : State p) (c : Fed) → possible (treeReply p v st c) ≡ true
   unfolding treeReply
   reply-possible st c =
-      cond-map possible (eqb (refusalOf p v st c) 0) (acceptedReply p v k st c) (refused (refusalOf p v st c))
+      cond-map possible (eqb (refusalOf p v st c) 0) (acceptedReply p v st c) (refused (refusalOf p v st c))
       ∙ rw (given-possible st c, refusal-possible st c) (cond-same (eqb (refusalOf p v st c) 0) true)
 
   -- from a state that a run comes to, the two runs are alike over every list of calls
-  alike : (cs : List Call) (st : State p) (more : List ℕ) → GoodState st → Timed cs → Alike t (recordIn st more) p v k st cs
+  alike : (cs : List Call) (st : State p) (more : List ℕ) → GoodState st → Timed cs → Alike t (recordIn st more) p v st cs
   alike [] st more g h =
       record {
         replies = refl;
@@ -379,12 +385,12 @@ module _ (v k : ℕ) (p : Part) (w : Within v k p) where
         clock-starts = starts-read (g .fits) (st .phase) more;
         finishing = finishing-alike [] st more 0 g h;
       }
-  alike (c ∷ cs) st more g h = joined (step st more c g (first-timed c cs h)) (λ e. alike cs (treeNext p v k st (fed c)) more e (others-timed c cs h))
+  alike (c ∷ cs) st more g h = joined (step st more c g (first-timed c cs h)) (λ e. alike cs (treeNext p v st (fed c)) more e (others-timed c cs h))
     where
-      joined : Stepped (recordIn st more) st more c → (GoodState (treeNext p v k st (fed c)) → Alike t (recordIn (treeNext p v k st (fed c)) more) p v k (treeNext p v k st (fed c)) cs)
-          → Alike t (recordIn st more) p v k st (c ∷ cs)
+      joined : Stepped (recordIn st more) st more c → (GoodState (treeNext p v st (fed c)) → Alike t (recordIn (treeNext p v st (fed c)) more) p v (treeNext p v st (fed c)) cs)
+          → Alike t (recordIn st more) p v st (c ∷ cs)
       joined s later =
-          let rest : Alike t (tableNext t (recordIn st more) c) p v k (treeNext p v k st (fed c)) cs = rw (s .holding) (later (s .good)) in
+          let rest : Alike t (tableNext t (recordIn st more) c) p v (treeNext p v st (fed c)) cs = rw (s .holding) (later (s .good)) in
           record {
             replies = ap₂ (λ (x : Reply) (xs : List Reply). x ∷ xs) (s .replied) (rest .replies);
             never = rw (s .replied, reply-possible st (fed c)) (rest .never);

@@ -1,4 +1,5 @@
 pub mod Contested
+pub mod Starts
 pub mod AtWork
 pub mod Marks
 pub mod Shapes

@@ -23,7 +23,7 @@ use Rattle.meaning.specs.Operations.{Compiled, Begun}
 use Rattle.meaning.proofs.Files.{accepted}
 use Rattle.meaning.proofs.Tables.{table-holds, table-accepted, compiled-is}
 use Rattle.meaning.proofs.Refusals.{compile-accepts, settled-phase}
-use Rattle.agreement.specs.Runs.{Call, offer, settling, Reply, refused, goals, running, done, reply, settledReply, tableReply, tableNext, tableReplies, tableAfter, tableFinishing, State, begin, settlingCount, possible, Alike, Timed}
+use Rattle.agreement.specs.Runs.{Call, Reply, refused, goals, running, done, reply, settledReply, tableReply, tableNext, tableReplies, tableAfter, tableFinishing, State, begin, settlingCount, possible, Alike, Timed}
 use Rattle.agreement.specs.Calls.{tableIn, Made, offerMade, settlingMade, callOf, recordFrom, Promised, AllPromised, replyOf, recordAfter, finishingCycle, CallsAlike, OperationsAlike}
 use Rattle.agreement.proofs.Agreement.{failing-passes, runs-alike}
 
@@ -99,8 +99,8 @@ module _ (t : List ℕ) (v : ℕ) (same : variables t ≡ v) where
       ∙ ap₂ (λ (q : List ℕ) (x : Reply). tableFinishing t q (n + settlingCount x) (map callOf ms)) (leaves t r m (h .0)) (made-reply-same r m (h .0)))
 
   -- what is so for the table's run is so for the calls that came back as promised
-  calls-alike : (r : List ℕ) (p : Part) (k : ℕ) (st : State p) (ms : List Made) → AllPromised t r ms → Alike t r p v k st (map callOf ms) → CallsAlike t r p v k st ms
-  calls-alike r p k st ms h alike =
+  calls-alike : (r : List ℕ) (p : Part) (st : State p) (ms : List Made) → AllPromised t r ms → Alike t r p v st (map callOf ms) → CallsAlike t r p v st ms
+  calls-alike r p st ms h alike =
       let after = record-is ms r h in
       record {
         replies = replies-are ms r h ∙ alike .replies;
@@ -140,10 +140,10 @@ module _ (f : List ℕ) where
   module _ (a : programRefusal File f ≡ 0) (est r : List ℕ) where
     -- `runs-alike` speaks of this one tree for each list of calls
     program-alike : (cs : List Call) → Timed cs → beginRefusal (compiled File f) est (length r) ≡ 0
-        → Alike (compiled File f) (begunInto (compiled File f) est r) (tree a) (variables f) (clocks f) (begin (tree a) (clocks f) est) cs
+        → Alike (compiled File f) (begunInto (compiled File f) est r) (tree a) (variables f) (begin (tree a) (clocks f) est) cs
     program-alike cs h z =
         let d = runs-alike f est r cs a h in
-        subst (λ (p : Part). Alike (compiled File f) (begunInto (compiled File f) est r) p (variables f) (clocks f) (begin p (clocks f) est) cs)
+        subst (λ (p : Part). Alike (compiled File f) (begunInto (compiled File f) est r) p (variables f) (begin p (clocks f) est) cs)
         (Option·some-injective (d .program) (tree a) (sym (d .tree-is) ∙ accepted File f a .1))
         (d .begun z)
 
@@ -157,8 +157,8 @@ module _ (f : List ℕ) where
           unbegun = λ n. b .record-is ∙ d .unbegun (λ z. n (b .answer-is ∙ z));
           begun =
               λ z ms h timed.
-              calls-alike (compiled File f) (variables f) (compiled-variables a) r' (tree a) (clocks f) (begin (tree a) (clocks f) est) ms h
-              (subst (λ (q : List ℕ). Alike (compiled File f) q (tree a) (variables f) (clocks f) (begin (tree a) (clocks f) est) (map callOf ms)) (sym (b .record-is)) (program-alike (map callOf ms) timed (sym (b .answer-is) ∙ z)));
+              calls-alike (compiled File f) (variables f) (compiled-variables a) r' (tree a) (begin (tree a) (clocks f) est) ms h
+              (subst (λ (q : List ℕ). Alike (compiled File f) q (tree a) (variables f) (begin (tree a) (clocks f) est) (map callOf ms)) (sym (b .record-is)) (program-alike (map callOf ms) timed (sym (b .answer-is) ∙ z)));
         }
 
 -- whatever compiling, a beginning on the table that it wrote, and calls after that answer and leave within their contracts

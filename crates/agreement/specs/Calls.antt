@@ -62,15 +62,15 @@ finishingCycle v r n [] = cond (eqb (phaseOf r) finished) (some n) none
 finishingCycle v r n (m ∷ ms) = cond (eqb (phaseOf r) finished) (some n) (finishingCycle v (recordFrom m) (n + settlingCount (replyOf v m)) ms)
 
 -- The calls made and the unfolding are alike, from a record and a state on: all that `Alike` says, about what came back
-pub record CallsAlike (t r : List ℕ) (p : Part) (v k : ℕ) (st : State p) (ms : List Made) : Type 0 where
-  pub replies : map (replyOf v) ms ≡ treeReplies p v k st (map callOf ms)
+pub record CallsAlike (t r : List ℕ) (p : Part) (v : ℕ) (st : State p) (ms : List Made) : Type 0 where
+  pub replies : map (replyOf v) ms ≡ treeReplies p v st (map callOf ms)
   pub never : all possible (map (replyOf v) ms) ≡ true
-  pub phases : phaseOf (recordAfter r ms) ≡ treeAfter p v k st (map callOf ms) .phase
-  pub times : lastTime (recordAfter r ms) ≡ treeAfter p v k st (map callOf ms) .time
-  pub estimates : estimateIn t (recordAfter r ms) ≡ treeAfter p v k st (map callOf ms) .estimate
-  pub flags : startedIn t (recordAfter r ms) ≡ treeAfter p v k st (map callOf ms) .started
-  pub clock-starts : startsIn t (recordAfter r ms) ≡ treeAfter p v k st (map callOf ms) .starts
-  pub finishing : finishingCycle v r 0 ms ≡ treeFinishing p v k st 0 (map callOf ms)
+  pub phases : phaseOf (recordAfter r ms) ≡ treeAfter p v st (map callOf ms) .phase
+  pub times : lastTime (recordAfter r ms) ≡ treeAfter p v st (map callOf ms) .time
+  pub estimates : estimateIn t (recordAfter r ms) ≡ treeAfter p v st (map callOf ms) .estimate
+  pub flags : startedIn t (recordAfter r ms) ≡ treeAfter p v st (map callOf ms) .started
+  pub clock-starts : startsIn t (recordAfter r ms) ≡ treeAfter p v st (map callOf ms) .starts
+  pub finishing : finishingCycle v r 0 ms ≡ treeFinishing p v st 0 (map callOf ms)
 
 -- A beginning on a file's table that answered a number and left a record: it answers 13, 8 or 0; refused, it has left the record as it was;
 -- not refused, every list of calls that came back as promised is alike with the unfolding
@@ -79,4 +79,4 @@ pub record OperationsAlike (f t est r : List ℕ) (answer : ℕ) (r' : List ℕ)
   pub tree-is : treeOf File f ≡ some program
   pub beginning : answer ≡ firstFailing ((estimateNotAllowed, estimateAllowed (variables f) est) ∷ (bufferTooShort, leb recordLength (length r)) ∷ [])
   pub unbegun : (answer ≡ 0 → ⊥) → r' ≡ r
-  pub begun : answer ≡ 0 → (ms : List Made) → AllPromised t r' ms → Timed (map callOf ms) → CallsAlike t r' program (variables f) (clocks f) (begin program (clocks f) est) ms
+  pub begun : answer ≡ 0 → (ms : List Made) → AllPromised t r' ms → Timed (map callOf ms) → CallsAlike t r' program (variables f) (begin program (clocks f) est) ms

@@ -5,18 +5,18 @@ use mathlib.Core.Bool.{Bool, true, cond, not, _&&_, _||_}
 use mathlib.Core.Option.{Option, none, some, Option·map}
 use mathlib.Core.List.{List, [], _∷_}
 use lib.Dec.{eqb, leb}
-use lib.ListN.{length, replicate}
+use lib.ListN.{length, set, replicate}
 use Rattle.base.specs.Lists.{all, any, firstFailing, bytesAt}
 use Rattle.meaning.specs.declared.Entry.{Entry}
 use Rattle.meaning.specs.Sizes.{timeLimit}
-use Rattle.meaning.specs.Kinds.{value}
+use Rattle.meaning.specs.Kinds.{START, value}
 use Rattle.meaning.specs.Tree.{Part}
 use Rattle.meaning.specs.declared.Form.the-variants.{File}
 use Rattle.meaning.specs.Program.{variables, clocks, treeOf}
 use Rattle.meaning.specs.Table.{compiled}
 use Rattle.meaning.specs.Conditions.{Situation}
-use Rattle.meaning.specs.Record.{phaseOf, lastTime, estimateIn, startedIn, startsIn, recordLength, waiting, offered, finished}
-use Rattle.meaning.specs.Cycle.{beginRefusal, begunInto, givesTo, goalBytes, clockFlags, clockStarts, offerRefusal, offeredName, offeredInto, goalsInto, settleRefusal, settledInto, estimateAllowed}
+use Rattle.meaning.specs.Record.{phaseOf, lastTime, estimateIn, startedIn, startsIn, recordLength, startedFlag, waiting, offered, finished}
+use Rattle.meaning.specs.Cycle.{beginRefusal, begunInto, isKind, givesTo, goalBytes, offerRefusal, offeredName, offeredInto, goalsInto, settleRefusal, settledInto, estimateAllowed}
 use Rattle.meaning.specs.Answers.{bufferTooShort, notATable, recordNotAllowed, wrongPhase, timeBeforeLast, estimateNotAllowed, runFinished, nothingAtWork, noVariable}
 use Rattle.agreement.specs.Unfolding.{Rest, afresh, check, working, settle}
 
@@ -59,6 +59,12 @@ isContested es v = any (λ e. givesTo v e && any (givesOther v (value (e .operan
 unfoldable pub lowestAtWork : List Entry → ℕ → ℕ → ℕ
 lowestAtWork es v zero = noVariable
 lowestAtWork es v (suc n) = cond (isContested es v) v (lowestAtWork es (suc v) n)
+
+-- "From now on every marked START sets its clock to the cycle's time. … Table and tree are both compared under this rule" (document 02, R-2): the flags or
+-- the starts of clocks after the STARTs among the leaves at work, one after the other, each of which sets its clock to x
+unfoldable pub startEach : ℕ → List Entry → List ℕ → List ℕ
+startEach x [] had = had
+startEach x (e ∷ es) had = startEach x es (cond (isKind START e) (set had (e .operand .b1) x) had)
 
 -- The run by unfolding. "Its state is the phase, last time, estimate and clocks, and what remains of the tree", of which nothing does once it has ended
 pub record State (p : Part) : Type 0 where
@@ -125,41 +131,41 @@ module _ (p : Part) where
   phaseFor none = finished
   phaseFor (some r) = waiting
 
-  abbrev pub settledState : State p → ℕ → List ℕ → State p
-  settledState st k est =
+  abbrev pub settledState : State p → List ℕ → State p
+  settledState st est =
       record {
         phase = phaseFor (settledRest (situationOf st est (st .time)) (st .rest));
         time = st .time;
         estimate = est;
-        started = clockFlags k (workingOf (st .rest)) (st .started);
-        starts = clockStarts k (workingOf (st .rest)) (st .started) (st .starts) (st .time);
+        started = startEach startedFlag (workingOf (st .rest)) (st .started);
+        starts = startEach (st .time) (workingOf (st .rest)) (st .starts);
         rest = settledRest (situationOf st est (st .time)) (st .rest);
       }
 
   -- "A refused call changes nothing"
-  abbrev pub acceptedNext : ℕ → State p → Fed → State p
-  acceptedNext k st (offering time room) = offeredState st time
-  acceptedNext k st (settled est) = settledState st k est
+  abbrev pub acceptedNext : State p → Fed → State p
+  acceptedNext st (offering time room) = offeredState st time
+  acceptedNext st (settled est) = settledState st est
 
-  unfoldable pub treeNext : ℕ → ℕ → State p → Fed → State p
-  treeNext v k st c = cond (eqb (refusalOf v st c) 0) (acceptedNext k st c) st
+  unfoldable pub treeNext : ℕ → State p → Fed → State p
+  treeNext v st c = cond (eqb (refusalOf v st c) 0) (acceptedNext st c) st
 
   -- "Goal bytes follow the offer's rule, over the GOALs that offer in what remains"
-  abbrev pub acceptedReply : ℕ → ℕ → State p → Fed → Reply
-  acceptedReply v k st (offering time room) = goals (goalBytes v (workingOf (offeredState st time .rest))) (lowestAtWork (workingOf (offeredState st time .rest)) 0 v)
-  acceptedReply v k st (settled est) = settledReply (settledState st k est .phase)
+  abbrev pub acceptedReply : ℕ → State p → Fed → Reply
+  acceptedReply v st (offering time room) = goals (goalBytes v (workingOf (offeredState st time .rest))) (lowestAtWork (workingOf (offeredState st time .rest)) 0 v)
+  acceptedReply v st (settled est) = settledReply (settledState st est .phase)
 
-  unfoldable pub treeReply : ℕ → ℕ → State p → Fed → Reply
-  treeReply v k st c = reply (refusalOf v st c) (acceptedReply v k st c)
+  unfoldable pub treeReply : ℕ → State p → Fed → Reply
+  treeReply v st c = reply (refusalOf v st c) (acceptedReply v st c)
 
   -- The unfolding's run over a list of calls
-  abbrev pub treeReplies : ℕ → ℕ → State p → List Call → List Reply
-  treeReplies v k st [] = []
-  treeReplies v k st (c ∷ cs) = treeReply v k st (fed c) ∷ treeReplies v k (treeNext v k st (fed c)) cs
+  abbrev pub treeReplies : ℕ → State p → List Call → List Reply
+  treeReplies v st [] = []
+  treeReplies v st (c ∷ cs) = treeReply v st (fed c) ∷ treeReplies v (treeNext v st (fed c)) cs
 
-  abbrev pub treeAfter : ℕ → ℕ → State p → List Call → State p
-  treeAfter v k st [] = st
-  treeAfter v k st (c ∷ cs) = treeAfter v k (treeNext v k st (fed c)) cs
+  abbrev pub treeAfter : ℕ → State p → List Call → State p
+  treeAfter v st [] = st
+  treeAfter v st (c ∷ cs) = treeAfter v (treeNext v st (fed c)) cs
 
 -- "The finishing cycle is the number of settlings not refused up to the moment at which the phase is first 2"
 abbrev pub settlingCount : Reply → ℕ
@@ -172,9 +178,9 @@ unfoldable pub tableFinishing : List ℕ → List ℕ → ℕ → List Call → 
 tableFinishing t r n [] = cond (eqb (phaseOf r) finished) (some n) none
 tableFinishing t r n (c ∷ cs) = cond (eqb (phaseOf r) finished) (some n) (tableFinishing t (tableNext t r c) (n + settlingCount (tableReply t r c)) cs)
 
-unfoldable pub treeFinishing : (p : Part) → ℕ → ℕ → State p → ℕ → List Call → Option ℕ
-treeFinishing p v k st n [] = cond (eqb (st .phase) finished) (some n) none
-treeFinishing p v k st n (c ∷ cs) = cond (eqb (st .phase) finished) (some n) (treeFinishing p v k (treeNext p v k st (fed c)) (n + settlingCount (treeReply p v k st (fed c))) cs)
+unfoldable pub treeFinishing : (p : Part) → ℕ → State p → ℕ → List Call → Option ℕ
+treeFinishing p v st n [] = cond (eqb (st .phase) finished) (some n) none
+treeFinishing p v st n (c ∷ cs) = cond (eqb (st .phase) finished) (some n) (treeFinishing p v (treeNext p v st (fed c)) (n + settlingCount (treeReply p v st (fed c))) cs)
 
 -- the replies of a run never refuse with 9, 10 or 15
 abbrev pub possible : Reply → Bool
@@ -184,15 +190,15 @@ possible running = true
 possible done = true
 
 -- The two runs are alike over a list of calls, from a record and a state on
-pub record Alike (t r : List ℕ) (p : Part) (v k : ℕ) (st : State p) (cs : List Call) : Type 0 where
-  pub replies : tableReplies t r cs ≡ treeReplies p v k st cs
+pub record Alike (t r : List ℕ) (p : Part) (v : ℕ) (st : State p) (cs : List Call) : Type 0 where
+  pub replies : tableReplies t r cs ≡ treeReplies p v st cs
   pub never : all possible (tableReplies t r cs) ≡ true
-  pub phases : phaseOf (tableAfter t r cs) ≡ treeAfter p v k st cs .phase
-  pub times : lastTime (tableAfter t r cs) ≡ treeAfter p v k st cs .time
-  pub estimates : estimateIn t (tableAfter t r cs) ≡ treeAfter p v k st cs .estimate
-  pub flags : startedIn t (tableAfter t r cs) ≡ treeAfter p v k st cs .started
-  pub clock-starts : startsIn t (tableAfter t r cs) ≡ treeAfter p v k st cs .starts
-  pub finishing : tableFinishing t r 0 cs ≡ treeFinishing p v k st 0 cs
+  pub phases : phaseOf (tableAfter t r cs) ≡ treeAfter p v st cs .phase
+  pub times : lastTime (tableAfter t r cs) ≡ treeAfter p v st cs .time
+  pub estimates : estimateIn t (tableAfter t r cs) ≡ treeAfter p v st cs .estimate
+  pub flags : startedIn t (tableAfter t r cs) ≡ treeAfter p v st cs .started
+  pub clock-starts : startsIn t (tableAfter t r cs) ≡ treeAfter p v st cs .starts
+  pub finishing : tableFinishing t r 0 cs ≡ treeFinishing p v st 0 cs
 
 -- each offer's time is one of 32 bits
 abbrev pub Timed : List Call → Type 0
@@ -207,4 +213,4 @@ pub record RunsAlike (f est r : List ℕ) (cs : List Call) : Type 0 where
   pub tree-is : treeOf File f ≡ some program
   pub beginning : beginRefusal (compiled File f) est (length r) ≡ firstFailing ((estimateNotAllowed, estimateAllowed (variables f) est) ∷ (bufferTooShort, leb recordLength (length r)) ∷ [])
   pub unbegun : (beginRefusal (compiled File f) est (length r) ≡ 0 → ⊥) → begunInto (compiled File f) est r ≡ r
-  pub begun : beginRefusal (compiled File f) est (length r) ≡ 0 → Alike (compiled File f) (begunInto (compiled File f) est r) program (variables f) (clocks f) (begin program (clocks f) est) cs
+  pub begun : beginRefusal (compiled File f) est (length r) ≡ 0 → Alike (compiled File f) (begunInto (compiled File f) est r) program (variables f) (begin program (clocks f) est) cs

@@ -86,7 +86,8 @@ pub record Demand1 : Type 0 where
       → Answers (settleTests t r est) answer (r' ≡ r) ((answer ≡ cond (rootEnded (settledMarks t r est)) (answered + 1) answered) × (r' ≡ settledRecord t r est))
 
 -- Demand 2. "Reading a program gives the table that document 01 lays down, the table gives that file back, and a table that no file gives is refused.
--- Each cycle over a table offers goals, starts clocks and ends parts as the stepping procedure of Ingham and Williams does", with the readings in document 01.
+-- Each cycle over a table offers goals, starts clocks and ends parts as the stepping procedure of Ingham and Williams does", with the readings in document 01
+-- and what document 02 changes.
 
 -- no program file gives these bytes for its table
 abbrev pub NoFile : List ℕ → Type 0

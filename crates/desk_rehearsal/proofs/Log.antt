@@ -124,7 +124,7 @@ lines-timed t (line ∷ lines) = first-timed t (bytesOf line) (parsedLine line) 
 -- bytes and names, "running" and "finished"
 pub log-unfolded : (f est r : List ℕ) (n : ℕ) (lines : List (List ℕ)) → programRefusal File f ≡ 0 → beginRefusal (compiled File f) est (length r) ≡ 0 → withinRun lines ≡ true
     → (p : Part) × (treeOf File f ≡ some p)
-    × (answersThrough (compiled File f) n (begunInto (compiled File f) est r) false lines ≡ flat replyText (treeReplies p (variables f) (clocks f) (begin p (clocks f) est) (allCalls (compiled File f) lines)))
+    × (answersThrough (compiled File f) n (begunInto (compiled File f) est r) false lines ≡ flat replyText (treeReplies p (variables f) (begin p (clocks f) est) (allCalls (compiled File f) lines)))
 log-unfolded f est r n lines a z h =
     let t : List ℕ = compiled File f in
     let alike = runs-alike f est r (allCalls t lines) a (lines-timed t lines) in (

@@ -12,7 +12,7 @@ use Rattle.meaning.specs.Program.{sizesAllowed, entries, entryKnown, ent
 use Rattle.meaning.specs.Table.{nextOf, block, tableOf, compiled, fileIn, isTable, compileRefusal, compiledInto, decompileRefusal, decompiledInto}
 use Rattle.meaning.specs.Conditions.{outcome, reached, satisfied, violated}
 use Rattle.meaning.specs.Record.{recordBytes, restZero, valuesAllowed, clockAllowed, clocksAllowed, markedChildren, childrenAllowed, partsAllowed, rootAllowed, recordAllowed}
-use Rattle.meaning.specs.Cycle.{beginsIn, initialMarksFrom, initialMarks, checkedFrom, leavesFrom, valuesFor, goalBytes, lowestContested, transition, applied, settledFrom, estimateAllowed, freshRecord, beginRefusal, begunInto, offerRefusal, offeredInto, goalsInto, worksFrom, settleRefusal, settledInto}
+use Rattle.meaning.specs.Cycle.{beginsIn, initialMarksFrom, initialMarks, checkedFrom, leavesFrom, valuesFor, goalBytes, lowestContested, transition, applied, settledFrom, clocksAfter, estimateAllowed, freshRecord, beginRefusal, begunInto, offerRefusal, offeredInto, goalsInto, worksFrom, settleRefusal, settledInto}
 
 -- A row: what is computed, and what it comes to
 infix 70 _gets_
@@ -60,5 +60,5 @@ unfolding begin allowed outcome violated checkedFrom leavesFrom valuesFor goalBy
 offer t r time room = offerRefusal t r time room
 
 unfoldable pub settle : List ℕ → List ℕ → List ℕ → ℕ
-unfolding offer reached satisfied transition applied settledFrom worksFrom settleRefusal settledInto
+unfolding offer reached satisfied transition applied settledFrom clocksAfter worksFrom settleRefusal settledInto
 settle t r est = settleRefusal t r est

@@ -11,6 +11,7 @@ pub mod Tables
 pub mod Lies
 pub mod Nesting
 pub mod Entries
+pub mod Clocks
 pub mod Records
 pub mod Refusals
 pub mod Answers

@@ -72,7 +72,7 @@ unfolding decompile
 program-buffers = refl
 
 -- "Phase; last time, 4; estimate, 32; clock started, 16; clock start times, 16 times 4; marks, 200": the record of a run of the first program that
--- has begun; after an offer at a time whose four bytes differ; and after a settling, which starts clock 1 and leaves the GOAL at work
+-- has begun; after an offer at a time whose four bytes differ, with some flags and starts; and after a settling, which leaves the GOAL at work
 abbrev begun : List ℕ
 begun =
     0
@@ -83,31 +83,36 @@ begun =
     ++ (1 ∷ 1 ∷ 1 ∷ replicate 197 0)
     ++ further
 
-abbrev offered : List ℕ
-offered =
+abbrev offeredWith : List ℕ → List ℕ → List ℕ
+offeredWith flags starts =
     1
     ∷ 0x01 ∷ 0x02 ∷ 0x03 ∷ 0x04
     ∷ 3 ∷ 4 ∷ replicate 30 0
-    ++ (0 ∷ 0 ∷ replicate 14 0)
-    ++ (0 ∷ 0 ∷ 0 ∷ 0 ∷ 0 ∷ 0 ∷ 0 ∷ 0 ∷ replicate 56 0)
+    ++ (flags ++ replicate 14 0)
+    ++ (starts ++ replicate 56 0)
     ++ (1 ∷ 1 ∷ 1 ∷ replicate 197 0)
     ++ further
 
-abbrev settled : List ℕ
-settled =
+abbrev offered : List ℕ
+offered = offeredWith (0 ∷ 0 ∷ []) (replicate 8 0)
+
+abbrev settledWith : List ℕ → List ℕ → List ℕ
+settledWith flags starts =
     0
     ∷ 0x01 ∷ 0x02 ∷ 0x03 ∷ 0x04
     ∷ 5 ∷ 250 ∷ replicate 30 0
-    ++ (0 ∷ 1 ∷ replicate 14 0)
-    ++ (0 ∷ 0 ∷ 0 ∷ 0 ∷ 0x01 ∷ 0x02 ∷ 0x03 ∷ 0x04 ∷ replicate 56 0)
+    ++ (flags ++ replicate 14 0)
+    ++ (starts ++ replicate 56 0)
     ++ (1 ∷ 0 ∷ 1 ∷ replicate 197 0)
     ++ further
 
--- "A longer buffer's further bytes are untouched"; a refused call changes nothing
+-- "A longer buffer's further bytes are untouched"; a refused call changes nothing. "every marked START sets its clock to the cycle's time" (document
+-- 02, R-2): clock 1, started before or not, and not clock 0
 pub record-bytes : Holds
     (begunInto pairTable (3 ∷ 4 ∷ []) (buffer 317) gets begun
     ∷ offeredInto pairTable begun 0x04030201 2 gets offered
-    ∷ settledInto pairTable offered (5 ∷ 250 ∷ []) gets settled
+    ∷ settledInto pairTable offered (5 ∷ 250 ∷ []) gets settledWith (0 ∷ 1 ∷ []) (0 ∷ 0 ∷ 0 ∷ 0 ∷ 0x01 ∷ 0x02 ∷ 0x03 ∷ 0x04 ∷ [])
+    ∷ settledInto pairTable (offeredWith (1 ∷ 1 ∷ []) (5 ∷ 6 ∷ 7 ∷ 0 ∷ 8 ∷ 9 ∷ 10 ∷ 0 ∷ [])) (5 ∷ 250 ∷ []) gets settledWith (1 ∷ 1 ∷ []) (5 ∷ 6 ∷ 7 ∷ 0 ∷ 0x01 ∷ 0x02 ∷ 0x03 ∷ 0x04 ∷ [])
     ∷ begunInto pairTable (3 ∷ 251 ∷ []) (buffer 317) gets buffer 317  -- 13
     ∷ offeredInto pairTable offered 0x04030201 2 gets offered  -- 11
     ∷ offeredInto pairTable begun 0x04030201 1 gets begun  -- 8

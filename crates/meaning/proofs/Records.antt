@@ -3,25 +3,25 @@ use Prim.Native.Nat.{ℕ, zero, suc, _+_, _-_, _*_, _/_, _%_, _^_, _≤_, _<_}
 use native.Mathlib.Nat.{zero-add}
 use native.Mathlib.Omega.{arith}
 use mathlib.Core.Path.{_≡_, refl, sym, ap, ap₂, _∙_}
-use mathlib.Core.Bool.{Bool, true, false, cond, not, _&&_, _||_, and-eq-true-iff}
+use mathlib.Core.Bool.{Bool, true, false, cond, _&&_, and-eq-true-iff}
 use mathlib.Core.List.{List, [], _∷_, _++_, map, append-assoc, append-nil}
 use lib.Dec.{eqb, leb}
 use lib.ListN.{length, getD, take, drop, set, replicate, length-append, length-replicate, getD-replicate}
 use lib.Seq.{sets, length-sets}
 use borrow.Author.Tests.{le-leb, leb-true, eqb-true}
-use Rattle.base.specs.Lists.{sum, concat, flat, all, any, tabulate, flag, bytesAt}
-use Rattle.base.proofs.Lists.{and-left, and-right, each-passes, Passed, none-fails, cond-map, cond-same, length-pieces, length-tabulate, getD-tabulate, all-tabulate, all-replicate}
-use Rattle.base.proofs.Stores.{length-bytes, sets-start, drop-front, bytes-front, drop-join, sets-join, bytes-join}
-use Rattle.meaning.specs.declared.Entry.{Entry}
+use Rattle.base.specs.Lists.{sum, concat, flat, all, tabulate, bytesAt}
+use Rattle.base.proofs.Lists.{and-left, Passed, none-fails, cond-map, cond-same, length-pieces, all-tabulate, all-replicate}
+use Rattle.base.proofs.Stores.{sets-start, drop-front, bytes-front, drop-join, sets-join, bytes-join}
 use Rattle.meaning.specs.Sizes.{maxParts, maxVariables, maxClocks, maxValue, timeWidth, littleEndian, littleEndianValue, byteValues, timeLimit}
 use Rattle.meaning.specs.Program.{parts, variables, clocks}
 use Rattle.meaning.specs.Table.{insideOf, isTable}
 use Rattle.meaning.specs.Conditions.{Situation}
 use Rattle.meaning.specs.declared.Transition.{Transition}
 use Rattle.meaning.specs.declared.Transition.the-variants.{Stays, Ends, First, Second}
-use Rattle.meaning.specs.Cycle.{applied, begins, initialMarksFrom, initialMarks, breaks, checkedFrom, checkedMarks, offeredRecord, leavesFrom, settledFrom, settledMarks, rootEnded, startsClock, clockFlags, clockStarts, settledRecord, estimateAllowed, freshRecord, beginTests, beginRefusal, begunInto}
-use Rattle.meaning.specs.Record.{timePlace, estimatePlace, startedPlace, startsPlace, marksPlace, recordLength, timeAt, phaseOf, lastTime, estimateIn, startedIn, startsIn, marksIn, recordBytes, isMark, isZero, restZero, valuesAllowed, clockAllowed, clocksAllowed, rootAllowed, partsAllowed, recordAllowed, waiting, offered, finished}
+use Rattle.meaning.specs.Cycle.{applied, begins, initialMarksFrom, initialMarks, breaks, checkedFrom, checkedMarks, offeredRecord, leavesFrom, settledFrom, settledMarks, rootEnded, clocksAfter, settledRecord, estimateAllowed, freshRecord, beginTests, beginRefusal, begunInto}
+use Rattle.meaning.specs.Record.{timePlace, estimatePlace, startedPlace, startsPlace, marksPlace, recordLength, timeAt, phaseOf, lastTime, estimateIn, startedIn, startsIn, marksIn, recordBytes, isZero, startedFlag, restZero, valuesAllowed, clockAllowed, clocksAllowed, rootAllowed, partsAllowed, recordAllowed, waiting, offered, finished}
 use Rattle.meaning.proofs.Tables.{table-held, root-there, root-end}
+use Rattle.meaning.proofs.Clocks.{length-after, each-after}
 
 -- Numbers: a number is read back from as many bytes as hold it
 pub value-back : (w x : ℕ) → x < 256 ^ suc w → littleEndianValue (x % 256) (littleEndian w (x / 256)) ≡ x
@@ -211,37 +211,6 @@ unfolding settledFrom
 length-settled t sit p [] = refl
 length-settled t sit p (m ∷ ms) = simp (cond-map (length {A = ℕ}), length-applied, cond-same, length-settled t sit (suc p) ms)
 
--- The clocks after a settling
-cond-below : (b : Bool) (x y n : ℕ) → x < n → y < n → cond b x y < n
-cond-below true x y n h k = h
-cond-below false x y n h k = k
-
-flag-small : (b : Bool) → leb (flag b) 1 ≡ true
-flag-small true = refl
-flag-small false = refl
-
--- a clock that is started, that a START starts now, or neither
-clock-case : (z b : Bool) (time x : ℕ) → cond z (isZero x) (leb x time) ≡ true → clockAllowed time (flag (not z || b)) (cond (not z) x (cond b time 0)) ≡ true
-unfolding clockAllowed
-clock-case true true time x h = le-leb time time (omega arith)
-clock-case true false time x h = refl
-clock-case false b time x h = h
-
--- each flag is 0 or 1
-pub flags-small : (n : ℕ) (es : List Entry) (started : List ℕ) → all (λ b. leb b 1) (clockFlags n es started) ≡ true
-flags-small n es started = all-tabulate _ (λ b. leb b 1) 0 n (λ c l. flag-small (isMark (getD started (0 + c) 0) || any (startsClock (0 + c)) es))
-
-module _ (n : ℕ) (es : List Entry) (started starts : List ℕ) (time : ℕ) where
-  -- a number above all starts and above the time is above all starts afterwards
-  pub starts-below : (m : ℕ) → ((c : ℕ) → c < n → getD starts c 0 < m) → time < m → (c : ℕ) → c < n → getD (clockStarts n es started starts time) c 0 < m
-  starts-below m h k c l = rw (getD-tabulate, zero-add) (cond-below (isMark (getD started c 0)) (getD starts c 0) (cond (any (startsClock c) es) time 0) m (h c l) (cond-below (any (startsClock c) es) time 0 m k (omega arith)))
-
-  -- clocks that are allowed stay so
-  pub clocks-settled : ((c : ℕ) → c < n → clockAllowed time (getD started c 0) (getD starts c 0) ≡ true)
-      → (c : ℕ) → c < n → clockAllowed time (getD (clockFlags n es started) c 0) (getD (clockStarts n es started starts time) c 0) ≡ true
-  unfolding clockAllowed
-  clocks-settled h c l = rw (getD-tabulate, getD-tabulate, zero-add) (clock-case (isZero (getD started c 0)) (any (startsClock c) es) time (getD starts c 0) (h c l))
-
 -- clocks that are not started are allowed
 pub clocks-begun : (n time c : ℕ) → c < n → clockAllowed time (getD (replicate n 0) c 0) (getD (replicate n 0) c 0) ≡ true
 unfolding clockAllowed
@@ -267,20 +236,20 @@ module _ {t : List ℕ} {time : ℕ} {est started starts marks : List ℕ} (fits
   offered-fits now h = record { shape = omega (arith, length-checked t (judged est started starts now) 0 marks 0); time-fits = h; starts-fit = fits .starts-fit }
 
   -- what it holds after a settling
-  pub settled-fits : (new : List ℕ) → length new ≡ variables t → Fits t time new (clockFlags (clocks t) (leavesFrom t 0 marks) started) (clockStarts (clocks t) (leavesFrom t 0 marks) started starts time) (settledFrom t (judged new started starts time) 0 marks)
+  pub settled-fits : (new : List ℕ) → length new ≡ variables t → Fits t time new (clocksAfter (clocks t) (leavesFrom t 0 marks) startedFlag started) (clocksAfter (clocks t) (leavesFrom t 0 marks) time starts) (settledFrom t (judged new started starts time) 0 marks)
   settled-fits new e =
       record {
         shape = record {
           estimate-is = e;
-          started-is = length-tabulate _ 0 (clocks t);
-          starts-are = length-tabulate _ 0 (clocks t);
+          started-is = length-after (clocks t) startedFlag (leavesFrom t 0 marks) started;
+          starts-are = length-after (clocks t) time (leavesFrom t 0 marks) starts;
           marks-are = length-settled t _ 0 marks ∙ fits .shape .marks-are;
           variables-fit = fits .shape .variables-fit;
           clocks-fit = fits .shape .clocks-fit;
           parts-fit = fits .shape .parts-fit;
         };
         time-fits = fits .time-fits;
-        starts-fit = starts-below (clocks t) (leavesFrom t 0 marks) started starts time (timeLimit) (fits .starts-fit) (fits .time-fits);
+        starts-fit = each-after (clocks t) time (leavesFrom t 0 marks) starts (λ x. x < timeLimit) (fits .time-fits) (fits .starts-fit);
       }
 
 module _ {t : List ℕ} {time : ℕ} {est started starts marks : List ℕ} (fits : Fits t time est started starts marks) (phase : ℕ) (more : List ℕ) where
@@ -306,7 +275,7 @@ module _ {t : List ℕ} {time : ℕ} {est started starts marks : List ℕ} (fits
   -- the record after a settling
   pub settled-bytes : (new : List ℕ) → length new ≡ variables t
       → settledRecord t (recordBytes phase time est started starts marks ++ more) new
-      ≡ recordBytes (cond (rootEnded (settledFrom t (judged new started starts time) 0 marks)) finished waiting) time new (clockFlags (clocks t) (leavesFrom t 0 marks) started) (clockStarts (clocks t) (leavesFrom t 0 marks) started starts time) (settledFrom t (judged new started starts time) 0 marks) ++ more
+      ≡ recordBytes (cond (rootEnded (settledFrom t (judged new started starts time) 0 marks)) finished waiting) time new (clocksAfter (clocks t) (leavesFrom t 0 marks) startedFlag started) (clocksAfter (clocks t) (leavesFrom t 0 marks) time starts) (settledFrom t (judged new started starts time) 0 marks) ++ more
   settled-bytes new e =
       rw (settled-record-marks new, started-read fits phase more, starts-read fits phase more, marks-read fits phase more, time-read fits phase more)
       (fields-written (fits .shape) phase time more _ new _ _ _ (settled-fits fits new e .shape))
@@ -365,26 +334,9 @@ pub allowed-long : (t r : List ℕ) → recordAllowed t r ≡ true → recordLen
 unfolding recordAllowed
 allowed-long t r h = leb-true recordLength (length r) (and-left (leb recordLength (length r)) (restZero t r && (valuesAllowed t r && (clocksAllowed t r && (rootAllowed (phaseOf r) (marksIn t r) && partsAllowed t (phaseOf r) 0 (marksIn t r))))) h)
 
--- and stays so while its length stays
-pub still-long : (t r s : List ℕ) → recordAllowed t r ≡ true → length s ≡ length r → recordLength ≤ length s
-still-long t r s allowed same = rw same (allowed-long t r allowed)
-
--- a clock of an allowed record: its flag is 0 or 1, and its start is allowed beside it
-pub allowed-clock : (t r : List ℕ) → recordAllowed t r ≡ true → (c : ℕ) → c < clocks t
-    → (getD (startedIn t r) c 0 ≤ 1) × (clockAllowed (lastTime r) (getD (startedIn t r) c 0) (getD (startsIn t r) c 0) ≡ true)
-unfolding recordAllowed valuesAllowed clocksAllowed
-allowed-clock t r h c l =
-    let marks : Bool = rootAllowed (phaseOf r) (marksIn t r) && partsAllowed t (phaseOf r) 0 (marksIn t r) in
-    let rest : Bool = clocksAllowed t r && marks in
-    let others : Bool = all (λ b. leb b 1) (marksIn t r) && all (λ b. leb b maxValue) (estimateIn t r) in
-    let flags : Bool = all (λ b. leb b 1) (startedIn t r) in
-    let tested : ℕ → Bool = λ c. clockAllowed (lastTime r) (getD (startedIn t r) c 0) (getD (startsIn t r) c 0) in
-    let later = and-right (restZero t r) (valuesAllowed t r && rest) (and-right (leb recordLength (length r)) (restZero t r && (valuesAllowed t r && rest)) h) in
-    let small : flags ≡ true = and-left flags others (and-right (leb (phaseOf r) finished) (flags && others) (and-left (valuesAllowed t r) rest later)) in
-    let right : all tested (tabulate (λ c. c) 0 (clocks t)) ≡ true = and-left (clocksAllowed t r) marks (and-right (valuesAllowed t r) rest later) in (
-      leb-true (getD (startedIn t r) c 0) 1 (each-passes (λ b. leb b 1) (startedIn t r) 0 small c (rw length-bytes l)),
-      rw (getD-tabulate (λ c. c) 0 (clocks t) c 0 l, zero-add) at (each-passes tested (tabulate (λ c. c) 0 (clocks t)) 0 right c (rw length-tabulate l)),
-    )
+-- a record that is long enough stays so while its length stays
+pub still-long : (r s : List ℕ) → recordLength ≤ length r → length s ≡ length r → recordLength ≤ length s
+still-long r s long same = rw same long
 
 -- an estimate that is allowed has a value for each variable, none too large
 pub estimate-fits : (t est : List ℕ) → estimateAllowed (variables t) est ≡ true → (length est ≡ variables t) × (all (λ x. leb x maxValue) est ≡ true)

@@ -14,10 +14,10 @@ use Rattle.base.proofs.Lists.{Passed, none-fails, passed, fails-append}
 use Rattle.base.proofs.Stores.{getD-sets-out, bytes-sets, drop-sets-out}
 use Rattle.meaning.specs.Sizes.{lengthOf, timeWidth, littleEndian}
 use Rattle.meaning.specs.declared.Form.the-variants.{File, Table}
-use Rattle.meaning.specs.Program.{parts, variables, clocks, programTests, programRefusal}
+use Rattle.meaning.specs.Program.{parts, variables, programTests, programRefusal}
 use Rattle.meaning.specs.Table.{roomTest, compileTests, compileRefusal}
-use Rattle.meaning.specs.Record.{estimatePlace, startedPlace, startsPlace, marksPlace, phaseOf, lastTime, startedIn, startsIn, waiting, finished}
-use Rattle.meaning.specs.Cycle.{beginRefusal, begunInto, checkedMarks, leavesFrom, offerTests, offerRefusal, offeredGoals, offeredInto, goalsInto, settledMarks, settledRecord, settleTests, settleRefusal, settledInto, rootEnded, startingLeaves, clockFlags, clockStarts}
+use Rattle.meaning.specs.Record.{estimatePlace, startedPlace, startsPlace, marksPlace, phaseOf, waiting, finished}
+use Rattle.meaning.specs.Cycle.{beginRefusal, begunInto, checkedMarks, leavesFrom, offerTests, offerRefusal, offeredGoals, offeredInto, goalsInto, settledMarks, settledRecord, settleTests, settleRefusal, settledInto, rootEnded, settledFlags, settledStarts}
 use Rattle.meaning.proofs.Entries.{length-goals}
 use Rattle.meaning.proofs.Records.{allowed-long}
 
@@ -75,11 +75,9 @@ module _ (t r est : List ℕ) (h : settleRefusal t r est ≡ 0) where
   pub settled-phase : phaseOf (settledRecord t r est) ≡ cond (rootEnded (settledMarks t r est)) finished waiting
   settled-phase =
       let phase = cond (rootEnded (settledMarks t r est)) finished waiting in
-      let flags = clockFlags (clocks t) (startingLeaves t r) (startedIn t r) in
-      let times = clockStarts (clocks t) (startingLeaves t r) (startedIn t r) (startsIn t r) (lastTime r) in
       getD-sets-out (settledMarks t r est) _ marksPlace 0 (inl (omega arith))
-      ∙ getD-sets-out (flat (littleEndian timeWidth) times) _ startsPlace 0 (inl (omega arith))
-      ∙ getD-sets-out flags _ startedPlace 0 (inl (omega arith))
+      ∙ getD-sets-out (flat (littleEndian timeWidth) (settledStarts t r)) _ startsPlace 0 (inl (omega arith))
+      ∙ getD-sets-out (settledFlags t r) _ startedPlace 0 (inl (omega arith))
       ∙ getD-sets-out est (set r 0 phase) estimatePlace 0 (inl (omega arith))
       ∙ getD-set-same r 0 phase 0 (omega (arith, allowed-long t r (settle-tests .1 .0)))
 

@@ -16,7 +16,7 @@ use Rattle.meaning.specs.Kinds.{Kind, UNKNOWN, GOAL, START, WAIT, SEQ, P
 use Rattle.meaning.specs.Program.{variables, clocks, entryAt}
 use Rattle.meaning.specs.Table.{kindAt, operandOf, endAt, parentAt, nextAt, insideOf, isTable}
 use Rattle.meaning.specs.Conditions.{Situation, reached, satisfied, violated}
-use Rattle.meaning.specs.Record.{timePlace, estimatePlace, startedPlace, startsPlace, marksPlace, recordLength, phaseOf, lastTime, estimateIn, startedIn, startsIn, marksIn, waiting, offered, finished, isMark, recordBytes, recordAllowed}
+use Rattle.meaning.specs.Record.{timePlace, estimatePlace, startedPlace, startsPlace, marksPlace, recordLength, phaseOf, lastTime, estimateIn, startedIn, startsIn, marksIn, waiting, offered, finished, isMark, startedFlag, recordBytes, recordAllowed}
 use Rattle.meaning.specs.Answers.{bufferTooShort, notATable, recordNotAllowed, wrongPhase, timeBeforeLast, estimateNotAllowed, runFinished, nothingAtWork, answering, noVariable}
 
 -- "To initialise is to mark the part and initialise SEQ's first child, all of PAR's, MAINTAIN's and REPEAT's child, and none of CHOICE's":
@@ -136,15 +136,14 @@ unfoldable pub settledFrom : List ℕ → Situation → ℕ → List ℕ → Lis
 settledFrom t sit p [] = []
 settledFrom t sit p (m ∷ ms) = settledPart t sit p m ms (settledFrom t sit (suc p) ms)
 
--- "A marked START starts its clock at the last time unless that clock is already started"
+-- "Figure 7 keeps a running clock when a waiting location is marked again, but our START never waits. From now on every marked START sets its clock to the
+-- cycle's time" (document 02, R-2): an entry is a START that names clock c; and of n clocks, with the flags or the starts that they had, what each has
+-- after the STARTs among some leaves: x where one names it, else what it had
 abbrev pub startsClock : ℕ → Entry → Bool
 startsClock c e = isKind START e && eqb (e .operand .b1) c
 
-abbrev pub clockFlags : ℕ → List Entry → List ℕ → List ℕ
-clockFlags n es started = tabulate (λ c. flag (isMark (getD started c 0) || any (startsClock c) es)) 0 n
-
-abbrev pub clockStarts : ℕ → List Entry → List ℕ → List ℕ → ℕ → List ℕ
-clockStarts n es started starts time = tabulate (λ c. cond (isMark (getD started c 0)) (getD starts c 0) (cond (any (startsClock c) es) time 0)) 0 n
+unfoldable pub clocksAfter : ℕ → List Entry → ℕ → List ℕ → List ℕ
+clocksAfter n es x had = tabulate (λ c. cond (any (startsClock c) es) x (getD had c 0)) 0 n
 
 -- The situation in which a record stands, at a time and with an estimate
 abbrev pub situation : List ℕ → List ℕ → List ℕ → ℕ → Situation
@@ -235,12 +234,12 @@ settleRefusal t r est = firstFailing (settleTests t r est)
 abbrev pub startingLeaves : List ℕ → List ℕ → List Entry
 startingLeaves t r = leavesFrom t 0 (marksIn t r)
 
--- the clocks' flags and starts that a settling leaves
+-- the clocks' flags and starts that a settling leaves: the cycle's time is the last time
 abbrev pub settledFlags : List ℕ → List ℕ → List ℕ
-settledFlags t r = clockFlags (clocks t) (startingLeaves t r) (startedIn t r)
+settledFlags t r = clocksAfter (clocks t) (startingLeaves t r) startedFlag (startedIn t r)
 
 abbrev pub settledStarts : List ℕ → List ℕ → List ℕ
-settledStarts t r = clockStarts (clocks t) (startingLeaves t r) (startedIn t r) (startsIn t r) (lastTime r)
+settledStarts t r = clocksAfter (clocks t) (startingLeaves t r) (lastTime r) (startsIn t r)
 
 abbrev pub settledRecord : List ℕ → List ℕ → List ℕ → List ℕ
 settledRecord t r est =

@@ -72,6 +72,10 @@ offered = 1
 abbrev pub finished : ℕ
 finished = 2
 
+-- "clock started, 16 bytes of 0 or 1": what stands for one that is started
+abbrev pub startedFlag : ℕ
+startedFlag = 1
+
 -- Marks: a list with 0 or 1 for each part
 abbrev pub isMark : ℕ → Bool
 isMark m = not (eqb m 0)

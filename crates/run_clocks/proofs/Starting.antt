@@ -1,9 +1,9 @@
--- Starting clocks: what the stores of one clock and of one part are, and that all parts together make the definition's flags and starts of a record that is allowed.
+-- Starting clocks: what the stores of one clock and of one part are, and part after part.
 use Prim.Native.Nat.{ℕ, suc, _+_, _-_, _*_, _≤_, _<_}
 use native.Mathlib.Numerals.{add-one}
 use native.Mathlib.Omega.{arith}
 use mathlib.Core.Path.{_≡_, _∙_}
-use mathlib.Core.Bool.{Bool, true, false, not, _&&_}
+use mathlib.Core.Bool.{Bool, true, false, _&&_}
 use mathlib.Core.List.{List}
 use lib.Dec.{eqb}
 use lib.ListN.{getD, set}
@@ -15,20 +15,15 @@ use Rattle.meaning.specs.Sizes.{maxClocks, timeWidth, littleEndian}
 use Rattle.meaning.specs.Kinds.{numberOf}
 use Rattle.meaning.specs.Program.{parts, variables, clocks, entryAt}
 use Rattle.meaning.specs.Table.{isTable}
-use Rattle.meaning.specs.Record.{startedPlace, startsPlace, marksPlace, isMark}
+use Rattle.meaning.specs.Record.{startedPlace, startsPlace, marksPlace, isMark, startedFlag}
 use Rattle.meaning.proofs.Entries.{read-allowed, start-fits}
 use Rattle.run_record.proofs.Marks.{clocks-fit}
 use Rattle.run_clocks.specs.Starting.{clockStarted, partStarted, partsStarted}
 
--- One clock, by what the code reads of it
-module _ (r : List ℕ) (c time : ℕ) (s : Bool) (s-is : s ≡ not (eqb (getD r (startedPlace + c) 0) 0)) where
-  pub clock-started-before : s ≡ true → r ≡ clockStarted c time r
-  unfolding clockStarted
-  clock-started-before h = rw (← s-is, h)
-
-  pub clock-stored : (a b : List ℕ) (i j : ℕ) → s ≡ false → i ≡ c → a ≡ set r (startedPlace + i) 1 → j ≡ c → b ≡ sets a (startsPlace + timeWidth * j) (littleEndian timeWidth time) → b ≡ clockStarted c time r
-  unfolding clockStarted
-  clock-stored a b i j h i-is a-is j-is b-is = b-is ∙ rw (a-is, i-is, j-is, ← s-is, h)
+-- One clock, by what the code stores
+pub clock-stored : (r a b : List ℕ) (c time i j : ℕ) → i ≡ c → a ≡ set r (startedPlace + i) startedFlag → j ≡ c → b ≡ sets a (startsPlace + timeWidth * j) (littleEndian timeWidth time) → b ≡ clockStarted c time r
+unfolding clockStarted
+clock-stored r a b c time i j i-is a-is j-is b-is = b-is ∙ rw (a-is, i-is, j-is)
 
 -- One part, by what the code reads of it
 module _ (t r : List ℕ) (p time : ℕ) (e : Entry) (b : Bool) (e-is : e ≡ entryAt Table t p) (b-is : b ≡ isMark (getD r (marksPlace + p) 0)) where

@@ -10,12 +10,12 @@ use Rattle.meaning.specs.Sizes.{timeWidth, littleEndian}
 use Rattle.meaning.specs.Kinds.{START}
 use Rattle.meaning.specs.Program.{entryAt}
 use Rattle.meaning.specs.Table.{operandOf}
-use Rattle.meaning.specs.Record.{startedPlace, startsPlace, marksPlace, isMark}
+use Rattle.meaning.specs.Record.{startedPlace, startsPlace, marksPlace, isMark, startedFlag}
 use Rattle.meaning.specs.Cycle.{isKind, settledFlags, settledStarts}
 
--- clock c is started at a time, unless it is started
+-- clock c is started at a time
 unfoldable pub clockStarted : ℕ → ℕ → List ℕ → List ℕ
-clockStarted c time r = cond (isMark (getD r (startedPlace + c) 0)) r (sets (set r (startedPlace + c) 1) (startsPlace + timeWidth * c) (littleEndian timeWidth time))
+clockStarted c time r = sets (set r (startedPlace + c) startedFlag) (startsPlace + timeWidth * c) (littleEndian timeWidth time)
 
 -- the clock of part p, where p is a marked START
 unfoldable pub partStarted : List ℕ → ℕ → ℕ → List ℕ → List ℕ

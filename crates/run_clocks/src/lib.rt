@@ -1,5 +1,4 @@
-// The clocks at a settling: a marked START starts its clock at the last time, unless that clock is
-// already started.
+// The clocks at a settling: every marked START sets its clock to the last time, started or not.
 use base::store;
 use base::wide;
 use meaning::Form;
@@ -12,7 +11,6 @@ use meaning::sizes::TIME;
 use program_part::layout::parts;
 use program_walk::walker::entry_at;
 use run_record::fields::is_marked;
-use run_record::fields::is_started;
 use run_record::fields::last_time;
 use run_record::times::put_time;
 ghost use mathlib.Core.Path.{_≡_};
@@ -22,18 +20,15 @@ ghost use lib.ListN.{length};
 ghost use Rattle.meaning.specs.Sizes.{maxClocks};
 ghost use Rattle.meaning.specs.Program.{parts};
 ghost use Rattle.meaning.specs.Table.{isTable};
-ghost use Rattle.meaning.specs.Record.{recordLength, recordAllowed};
+ghost use Rattle.meaning.specs.Record.{recordLength};
 ghost use Rattle.run_clocks.specs.Starting.{clockStarted, partStarted, clocksSettled};
 
-// Starts clock c at a time, unless it is started.
+// Starts clock c at a time, whatever it had.
 fn start_clock(r: &mut [u8], c: u8, time: u32)
     requires { ⌜ recordLength ≤ length (now r) ⌝ }
     requires { ⌜ c < maxClocks ⌝ }
     ensures { λ _. ⌜ now (r .exit) ≡ clockStarted c time (now (r .entry)) ⌝ }
 {
-    if is_started(r, c) {
-        return;
-    }
     store(r, STARTED_PLACE + wide(c), STARTED);
     put_time(r, STARTS_PLACE + TIME * wide(c), time);
 }
@@ -52,11 +47,10 @@ fn start_part(t: &[u8], r: &mut [u8], p: Number, time: u32)
     }
 }
 
-// Starts the clocks that marked STARTs name. A clock that none of them names keeps its bytes, so the
-// record must be one that is allowed.
+// Starts the clocks that marked STARTs name. A clock that none of them names keeps its bytes.
 pub fn start_clocks(t: &[u8], r: &mut [u8])
     requires { ⌜ isTable (now t) ≡ true ⌝ }
-    requires { ⌜ recordAllowed (now t) (now r) ≡ true ⌝ }
+    requires { ⌜ recordLength ≤ length (now r) ⌝ }
     ensures { λ _. ⌜ now (r .exit) ≡ clocksSettled (now (t .entry)) (now (r .entry)) ⌝ }
 {
     let time = last_time(r);

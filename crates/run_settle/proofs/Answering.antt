@@ -17,7 +17,7 @@ use Rattle.meaning.specs.declared.Answer.the-variants.{Done, Refused}
 use Rattle.meaning.specs.Sizes.{maxParts}
 use Rattle.meaning.specs.Program.{parts, variables}
 use Rattle.meaning.specs.Table.{isTable}
-use Rattle.meaning.specs.Record.{recordAllowed, recordLength, phaseOf, lastTime, marksPlace, marksIn, waiting}
+use Rattle.meaning.specs.Record.{recordLength, phaseOf, lastTime, marksPlace, marksIn, waiting}
 use Rattle.meaning.specs.Cycle.{estimateAllowed, situation, settledMarks, rootEnded, worksFrom, settleRefusal, settledRecord, settledInto}
 use Rattle.meaning.specs.Answers.{refusalNumber, answerNumber, answered, nothingAtWork, wrongPhase, estimateNotAllowed}
 use Rattle.meaning.specs.Operations.{Settled}
@@ -118,11 +118,11 @@ module _ (t r est : List ℕ) where
     none = not-refused a (settleRefusal t r est) (j .answer-is) done
 
     -- what writing the record asks
-    pub to-commit : (isTable t ≡ true) × ((recordAllowed t r ≡ true) × ((estimateAllowed (variables t) est ≡ true) × (bytesAt m 0 (parts t) ≡ settledMarks t r est)))
+    pub to-commit : (isTable t ≡ true) × ((recordLength ≤ length r) × ((estimateAllowed (variables t) est ≡ true) × (bytesAt m 0 (parts t) ≡ settledMarks t r est)))
     unfolding settleRefusal
     to-commit =
         let passed = none-fails (earlyTests t r est ++ lastTest) refl none in
-        (passed .0, (passed .1 .0, (passed .1 .1 .1 .1 .0, j .marks-are none)))
+        (passed .0, (allowed-long t r (passed .1 .0), (passed .1 .1 .1 .1 .0, j .marks-are none)))
 
     root-mark : getD (settledMarks t r est) 0 0 ≡ getD m 0 0
     root-mark = sym (sym (getD-bytes m 0 (parts t) 0 (root-there t (to-commit .0))) ∙ ap (λ l. getD l 0 0) (j .marks-are none))

@@ -11,10 +11,10 @@ use borrow.Author.Tests.{ne-eqb}
 use Rattle.base.specs.Lists.{flat, bytesAt}
 use Rattle.base.proofs.Stores.{bytes-all, getD-bytes, set-before, sets-swap}
 use Rattle.meaning.specs.Sizes.{maxVariables, timeWidth, littleEndian}
-use Rattle.meaning.specs.Program.{parts, variables, clocks}
+use Rattle.meaning.specs.Program.{parts, variables}
 use Rattle.meaning.specs.Table.{isTable}
-use Rattle.meaning.specs.Record.{recordAllowed, recordLength, estimatePlace, startedPlace, startsPlace, marksPlace, lastTime, startedIn, startsIn, waiting, finished}
-use Rattle.meaning.specs.Cycle.{estimateAllowed, clockFlags, clockStarts, startingLeaves, rootEnded, settledMarks, settledRecord}
+use Rattle.meaning.specs.Record.{recordLength, estimatePlace, startedPlace, startsPlace, marksPlace, waiting, finished}
+use Rattle.meaning.specs.Cycle.{estimateAllowed, rootEnded, settledMarks, settledFlags, settledStarts, settledRecord}
 use Rattle.program_part.proofs.Places.{parts-fit}
 use Rattle.meaning.proofs.Records.{still-long, estimate-fits}
 use Rattle.meaning.proofs.Tables.{table-held, root-there}
@@ -42,7 +42,7 @@ module _ (t r est m : List ℕ) (table : isTable t ≡ true) (e : estimateAllowe
   estimate-whole = rw (← (estimate-fits t est e .0)) (bytes-all est)
 
   pub record-committed : (r₁ r₂ r₃ r₄ : List ℕ) (x v v₁ n n₁ : ℕ)
-      → r₁ ≡ sets (sets r startedPlace (clockFlags (clocks t) (startingLeaves t r) (startedIn t r))) startsPlace (flat (littleEndian timeWidth) (clockStarts (clocks t) (startingLeaves t r) (startedIn t r) (startsIn t r) (lastTime r)))
+      → r₁ ≡ sets (sets r startedPlace (settledFlags t r)) startsPlace (flat (littleEndian timeWidth) (settledStarts t r))
       → x ≡ cond (rootEnded m) finished waiting
       → r₂ ≡ set r₁ 0 x
       → v₁ ≡ variables t
@@ -53,8 +53,8 @@ module _ (t r est m : List ℕ) (table : isTable t ≡ true) (e : estimateAllowe
       → r₄ ≡ sets r₃ marksPlace (bytesAt m 0 n)
       → r₄ ≡ settledRecord t r est
   record-committed r₁ r₂ r₃ r₄ x v v₁ n n₁ r₁-is x-is r₂-is v₁-is v-is r₃-is n₁-is n-is r₄-is =
-      let fs : List ℕ = clockFlags (clocks t) (startingLeaves t r) (startedIn t r) in
-      let ss : List ℕ = flat (littleEndian timeWidth) (clockStarts (clocks t) (startingLeaves t r) (startedIn t r) (startsIn t r) (lastTime r)) in
+      let fs : List ℕ = settledFlags t r in
+      let ss : List ℕ = flat (littleEndian timeWidth) (settledStarts t r) in
       let y : ℕ = cond (rootEnded (settledMarks t r est)) finished waiting in
       let x-same : x ≡ y = x-is ∙ ap (λ a. cond (not (not (eqb a 0))) finished waiting) root-same in
       let third : r₃ ≡ sets (sets (sets (set r 0 y) estimatePlace est) startedPlace fs) startsPlace ss =
@@ -63,8 +63,8 @@ module _ (t r est m : List ℕ) (table : isTable t ≡ true) (e : estimateAllowe
       r₄-is ∙ rw (n-is ∙ n₁-is, m-is, third)
 
 -- the phase stands inside
-pub first-there : (t r s : List ℕ) → recordAllowed t r ≡ true → length s ≡ length r → 0 < length s
-first-there t r s allowed same = omega (arith, still-long t r s allowed same)
+pub first-there : (r s : List ℕ) → recordLength ≤ length r → length s ≡ length r → 0 < length s
+first-there r s long same = omega (arith, still-long r s long same)
 
 -- what is copied stands inside, and has room in the record
 pub estimate-fit : (t est : List ℕ) (v w room : ℕ) → isTable t ≡ true → estimateAllowed (variables t) est ≡ true → v ≡ variables t → w ≡ v → recordLength ≤ room → (0 + w ≤ length est) × (estimatePlace + w ≤ room)

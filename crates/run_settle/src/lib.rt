@@ -32,7 +32,7 @@ ghost use Rattle.base.specs.Lists.{bytesAt};
 ghost use Rattle.meaning.specs.Sizes.{maxParts};
 ghost use Rattle.meaning.specs.Program.{parts, variables};
 ghost use Rattle.meaning.specs.Table.{isTable};
-ghost use Rattle.meaning.specs.Record.{recordAllowed, waiting, finished};
+ghost use Rattle.meaning.specs.Record.{recordLength, waiting, finished};
 ghost use Rattle.meaning.specs.Cycle.{estimateAllowed, rootEnded, settledMarks, settledRecord};
 ghost use Rattle.meaning.specs.Answers.{answerNumber, settleNumber};
 ghost use Rattle.meaning.specs.Operations.{Settled};
@@ -87,7 +87,7 @@ fn phase_after(m: &[u8]) -> u8
 // the record has before it takes the new ones.
 fn commit(t: &[u8], r: &mut [u8], est: &[u8], m: &[u8])
     requires { ⌜ isTable (now t) ≡ true ⌝ }
-    requires { ⌜ recordAllowed (now t) (now r) ≡ true ⌝ }
+    requires { ⌜ recordLength ≤ length (now r) ⌝ }
     requires { ⌜ parts (now t) ≤ length (now m) ⌝ }
     requires { ⌜ estimateAllowed (variables (now t)) (now est) ≡ true ⌝ }
     requires { ⌜ bytesAt (now m) 0 (parts (now t)) ≡ settledMarks (now t) (now r) (now est) ⌝ }

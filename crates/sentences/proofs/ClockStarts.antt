@@ -1,23 +1,26 @@
--- What becomes of each clock at a settling, by part number.
-use Prim.Native.Nat.{ℕ, _<_}
-use native.Mathlib.Nat.{zero-add}
-use mathlib.Core.Path.{_≡_, refl}
+-- What becomes of each clock at a settling, by part number, and what follows for every record that is allowed.
+use Prim.Native.Nat.{ℕ, _≤_, _<_}
+use native.Mathlib.Omega.{arith}
+use mathlib.Core.Path.{_≡_, refl, sym, _∙_}
 use mathlib.Core.Logic.{_↔_, _⊎_, inl, inr}
-use mathlib.Core.Bool.{Bool, true, false, cond, _||_, or-true, false≢true}
+use mathlib.Core.Bool.{Bool, true, false, cond, or-true, false≢true}
 use mathlib.Core.List.{List}
 use lib.Dec.{eqb}
 use lib.ListN.{getD}
 use borrow.Author.Tests.{eqb-true, eq-eqb}
-use Rattle.base.specs.Lists.{any, flag}
-use Rattle.base.proofs.Lists.{and-left, and-right, getD-tabulate}
+use Rattle.base.specs.Lists.{any}
+use Rattle.base.proofs.Lists.{and-left, and-right}
 use Rattle.meaning.specs.declared.Entry.{Entry}
 use Rattle.meaning.specs.declared.Form.the-variants.{Table}
 use Rattle.meaning.specs.Kinds.{START}
 use Rattle.meaning.specs.Program.{clocks, entryAt}
 use Rattle.meaning.specs.Table.{operandOf}
-use Rattle.meaning.specs.Record.{isMark}
-use Rattle.meaning.specs.Cycle.{isKind, isLeaf, leavesFrom, startsClock, clockFlags, clockStarts}
-use Rattle.sentences.specs.Marks.{Marked, StartAt}
+use Rattle.meaning.specs.Record.{lastTime, startedIn, startsIn, marksIn}
+use Rattle.meaning.specs.Cycle.{isKind, isLeaf, leavesFrom, startsClock, clocksAfter}
+use Rattle.meaning.proofs.Clocks.{clock-after}
+use Rattle.sentences.specs.Marks.{Started, StartAt}
+use Rattle.sentences.specs.Allowed.{AllowedRecord}
+use Rattle.sentences.specs.Stepping.{SettlingSteps}
 use Rattle.sentences.proofs.LeavesAt.{leaf-marked}
 
 start-leaf : (c : ℕ) (e : Entry) → startsClock c e ≡ true → isLeaf e ≡ true
@@ -33,50 +36,45 @@ start-marked t ms c =
       λ (p, (l, a, s, e)). both .1 (p, (l, a, rw (s, eq-eqb (operandOf t p .b1) c e))),
     )
 
-module _ (t ms started starts : List ℕ) (time c : ℕ) (below : c < clocks t) where
-  abbrev startsNow : Bool
-  startsNow = any (startsClock c) (leavesFrom t 0 ms)
+-- some marked START names a clock, or none does
+pub named-or-not : (t ms : List ℕ) (c : ℕ) → ((p : ℕ) × StartAt t ms c p) ⊎ ((p : ℕ) → StartAt t ms c p → ⊥)
+named-or-not t ms c = go (any (startsClock c) (leavesFrom t 0 ms)) refl
+  where
+    go : (b : Bool) → any (startsClock c) (leavesFrom t 0 ms) ≡ b → ((p : ℕ) × StartAt t ms c p) ⊎ ((p : ℕ) → StartAt t ms c p → ⊥)
+    go true e = inl (start-marked t ms c .0 e)
+    go false e = inr (λ p s. false≢true (sym e ∙ start-marked t ms c .1 (p, s)))
 
-  flag-is : isMark (getD (clockFlags (clocks t) (leavesFrom t 0 ms) started) c 0) ≡ (isMark (getD started c 0) || startsNow)
-  flag-is = rw (getD-tabulate, zero-add) (go (isMark (getD started c 0) || startsNow))
+-- The flag or the start of clock c, where a marked START sets it to x
+module _ (t ms had : List ℕ) (x c : ℕ) (below : c < clocks t) where
+  abbrev after : ℕ
+  after = getD (clocksAfter (clocks t) (leavesFrom t 0 ms) x had) c 0
+
+  pub named-set : (p : ℕ) → StartAt t ms c p → after ≡ x
+  named-set p s = clock-after (clocks t) x (leavesFrom t 0 ms) had c below ∙ rw (start-marked t ms c .1 (p, s))
+
+  pub unnamed-kept : ((p : ℕ) → StartAt t ms c p → ⊥) → after ≡ getD had c 0
+  unnamed-kept none = clock-after (clocks t) x (leavesFrom t 0 ms) had c below ∙ go (any (startsClock c) (leavesFrom t 0 ms)) refl
     where
-      go : (b : Bool) → isMark (flag b) ≡ b
-      go true = refl
-      go false = refl
+      go : (b : Bool) → any (startsClock c) (leavesFrom t 0 ms) ≡ b → cond b x (getD had c 0) ≡ getD had c 0
+      go true e = absurd (let (p, s) = start-marked t ms c .0 e in none p s)
+      go false e = refl
 
-  start-is : getD (clockStarts (clocks t) (leavesFrom t 0 ms) started starts time) c 0 ≡ cond (isMark (getD started c 0)) (getD starts c 0) (cond startsNow time 0)
-  start-is = rw (getD-tabulate, zero-add)
-
-  -- "A marked START starts its clock": a clock is started afterwards exactly where it was or a marked START names it
-  pub clock-flag : Marked (clockFlags (clocks t) (leavesFrom t 0 ms) started) c ↔ (Marked started c ⊎ ((p : ℕ) × StartAt t ms c p))
-  clock-flag = rw flag-is (λ h. go (isMark (getD started c 0)) refl h, from)
+-- What a settling leaves of the clocks
+module _ (t r est r' : List ℕ) (s : SettlingSteps t r est r') (c : ℕ) (below : c < clocks t) where
+  -- a started clock is never unstarted
+  pub stays-started : Started t r c → Started t r' c
+  stays-started h = go (named-or-not t (marksIn t r) c)
     where
-      go : (b : Bool) → isMark (getD started c 0) ≡ b → (b || startsNow) ≡ true → Marked started c ⊎ ((p : ℕ) × StartAt t ms c p)
-      go true e h = inl e
-      go false e h = inr (start-marked t ms c .0 h)
+      go : ((p : ℕ) × StartAt t (marksIn t r) c p) ⊎ ((p : ℕ) → StartAt t (marksIn t r) c p → ⊥) → Started t r' c
+      go (inl (p, a)) = rw (s .clock-set c below p a .0)
+      go (inr n) = rw (s .clock-kept c below n .0) h
 
-      from : Marked started c ⊎ ((p : ℕ) × StartAt t ms c p) → (isMark (getD started c 0) || startsNow) ≡ true
-      from (inl e) = rw e
-      from (inr s) = rw (start-marked t ms c .1 s, or-true)
-
-  -- "unless that clock is already started": a started clock keeps its start
-  pub clock-kept : Marked started c → getD (clockStarts (clocks t) (leavesFrom t 0 ms) started starts time) c 0 ≡ getD starts c 0
-  clock-kept s = rw (start-is, s)
-
-  -- "at the last time"
-  pub clock-started : (Marked started c → ⊥) → Marked (clockFlags (clocks t) (leavesFrom t 0 ms) started) c → getD (clockStarts (clocks t) (leavesFrom t 0 ms) started starts time) c 0 ≡ time
-  clock-started d h = rw start-is (go (isMark (getD started c 0)) startsNow d (rw flag-is at h))
+  -- what an allowed record says of a clock holds afterwards: a start is never after the last time
+  pub stays-allowed : AllowedRecord t r
+      → (getD (startedIn t r') c 0 ≤ 1) × (getD (startedIn t r') c 0 ≡ 0 → getD (startsIn t r') c 0 ≡ 0) × (0 < getD (startedIn t r') c 0 → getD (startsIn t r') c 0 ≤ lastTime r')
+  stays-allowed allowed = rw (s .time-kept) (go (named-or-not t (marksIn t r) c))
     where
-      go : (a b : Bool) → (a ≡ true → ⊥) → (a || b) ≡ true → cond a (getD starts c 0) (cond b time 0) ≡ time
-      go true b d e = absurd (d refl)
-      go false true d e = refl
-      go false false d e = absurd (false≢true e)
-
-  -- a clock that is not started has no start
-  pub clock-unstarted : (Marked (clockFlags (clocks t) (leavesFrom t 0 ms) started) c → ⊥) → getD (clockStarts (clocks t) (leavesFrom t 0 ms) started starts time) c 0 ≡ 0
-  clock-unstarted d = rw start-is (go (isMark (getD started c 0)) startsNow (rw flag-is at d))
-    where
-      go : (a b : Bool) → ((a || b) ≡ true → ⊥) → cond a (getD starts c 0) (cond b time 0) ≡ 0
-      go true b d = absurd (d refl)
-      go false true d = absurd (d refl)
-      go false false d = refl
+      go : ((p : ℕ) × StartAt t (marksIn t r) c p) ⊎ ((p : ℕ) → StartAt t (marksIn t r) c p → ⊥)
+          → (getD (startedIn t r') c 0 ≤ 1) × (getD (startedIn t r') c 0 ≡ 0 → getD (startsIn t r') c 0 ≡ 0) × (0 < getD (startedIn t r') c 0 → getD (startsIn t r') c 0 ≤ lastTime r)
+      go (inl (p, a)) = rw (s .clock-set c below p a .0, s .clock-set c below p a .1) (omega arith, λ e. absurd (omega arith), λ l. omega arith)
+      go (inr n) = rw (s .clock-kept c below n .0, s .clock-kept c below n .1) (allowed .flags-named c below, allowed .unstarted-zero c below, allowed .started-before c below)

@@ -3,7 +3,7 @@ use Prim.Native.Nat.{ℕ, zero, suc, _+_, _-_, _*_, _≤_, _<_}
 use native.Mathlib.Nat.{zero-add, add-zero, add-suc}
 use native.Mathlib.Omega.{arith}
 use mathlib.Core.Path.{_≡_, refl, sym, ap, subst, _∙_}
-use mathlib.Core.Bool.{Bool, true, false, cond, false≢true}
+use mathlib.Core.Bool.{Bool, true, cond}
 use mathlib.Core.Logic.{_↔_, _⊎_, inl, inr, Iff·trans, Iff·symm}
 use mathlib.Core.List.{List}
 use lib.ListN.{length, getD}
@@ -17,13 +17,14 @@ use Rattle.meaning.specs.Record.{timePlace, estimatePlace, startedPlace, starts
 use Rattle.meaning.specs.Conditions.{Situation}
 use Rattle.meaning.specs.Cycle.{situation}
 use Rattle.meaning.proofs.Nesting.{lower}
-use Rattle.sentences.specs.Marks.{Marked, Flags, NoGoalAt, GoalsAgree, GoalsDiffer, NamesLowest}
+use Rattle.sentences.specs.Marks.{Marked, Flags, NoGoalAt, GoalsAgree, GoalsDiffer, NamesLowest, StartAt}
 use Rattle.sentences.specs.Fields.{Bytes, Spare}
 use Rattle.sentences.specs.Stepping.{BeginningSteps, OfferSteps, SettlingSteps}
 use Rattle.sentences.proofs.AllowedRecords.{is-mark}
 use Rattle.sentences.proofs.RecordFields.{byte-same}
 use Rattle.sentences.proofs.GoalBytes.{Says, byte-says, goal-values-fit}
 use Rattle.sentences.proofs.Naming.{one-lowest}
+use Rattle.sentences.proofs.ClockStarts.{named-or-not}
 use Rattle.sentences.proofs.Endings.{same-after, determined}
 
 -- lists that have the same at each place
@@ -113,22 +114,19 @@ module _ (t a b : List ℕ) (small : Bytes a) (others : Bytes b) (s : Same t a b
   same-record : a ≡ b
   same-record = same-list a b (s .lengths) (λ i l. same-byte i)
 
--- bytes of 0 or 1 that are 1 at the same places
-same-flags : (x y : List ℕ) → length x ≡ length y → Flags x → Flags y → ((p : ℕ) → p < length x → Marked x p ↔ Marked y p) → x ≡ y
-same-flags x y e f g same = same-list x y e (λ p l. same-flag (getD x p 0) (getD y p 0) (f p) (g p) (same p l))
+-- as many bytes for each field
+same-length : (a b : List ℕ) (k n : ℕ) → length (bytesAt a k n) ≡ length (bytesAt b k n)
+same-length a b k n = length-bytes a k n ∙ sym (length-bytes b k n)
+
+-- marks of 0 or 1 that are 1 at the same parts
+same-marks : (t a b : List ℕ) → Flags (marksIn t a) → Flags (marksIn t b) → ((p : ℕ) → Marked (marksIn t a) p ↔ Marked (marksIn t b) p) → marksIn t a ≡ marksIn t b
+same-marks t a b f g same = same-list (marksIn t a) (marksIn t b) (same-length a b marksPlace (parts t)) (λ p l. same-flag (getD (marksIn t a) p 0) (getD (marksIn t b) p 0) (f p) (g p) (same p))
   where
     same-flag : (m n : ℕ) → m ≤ 1 → n ≤ 1 → ((isMark m ≡ true) ↔ (isMark n ≡ true)) → m ≡ n
     same-flag zero zero f g h = refl
     same-flag zero (suc n) f g h = absurd (omega (arith, is-mark 0 .0 (h .1 (is-mark (suc n) .1 (omega arith)))))
     same-flag (suc m) zero f g h = absurd (omega (arith, is-mark 0 .0 (h .0 (is-mark (suc m) .1 (omega arith)))))
     same-flag (suc m) (suc n) f g h = omega arith
-
--- as many bytes for each field
-same-length : (a b : List ℕ) (k n : ℕ) → length (bytesAt a k n) ≡ length (bytesAt b k n)
-same-length a b k n = length-bytes a k n ∙ sym (length-bytes b k n)
-
-same-marks : (t a b : List ℕ) → Flags (marksIn t a) → Flags (marksIn t b) → ((p : ℕ) → Marked (marksIn t a) p ↔ Marked (marksIn t b) p) → marksIn t a ≡ marksIn t b
-same-marks t a b f g same = same-flags (marksIn t a) (marksIn t b) (same-length a b marksPlace (parts t)) f g (λ p l. same p)
 
 -- start times, clock by clock
 same-starts : (t a b : List ℕ) → ((c : ℕ) → c < clocks t → getD (startsIn t a) c 0 ≡ getD (startsIn t b) c 0) → startsIn t a ≡ startsIn t b
@@ -212,16 +210,12 @@ module _ (t r est a b : List ℕ) (h : isTable t ≡ true) (x : SettlingSteps t 
         λ m. x .marks-settled p .1 (same-after t h sit (marksIn t r) whole (y .ends) (x .ends) (λ q. sym (ends-same q)) p (y .marks-settled p .0 m)),
       ))
 
-  flags-same : startedIn t a ≡ startedIn t b
-  flags-same = same-flags (startedIn t a) (startedIn t b) (same-length a b startedPlace (clocks t)) (x .started-flags) (y .started-flags) (λ c l. Iff·trans (x .clock-flags c (rw length-bytes at l)) (Iff·symm (y .clock-flags c (rw length-bytes at l))))
-
-  start-same : (c : ℕ) → c < clocks t → getD (startsIn t a) c 0 ≡ getD (startsIn t b) c 0
-  start-same c l = go (isMark (getD (startedIn t r) c 0)) refl (isMark (getD (startedIn t a) c 0)) refl
+  clock-same : (c : ℕ) → c < clocks t → (getD (startedIn t a) c 0 ≡ getD (startedIn t b) c 0) × (getD (startsIn t a) c 0 ≡ getD (startsIn t b) c 0)
+  clock-same c l = go (named-or-not t (marksIn t r) c)
     where
-      go : (u : Bool) → isMark (getD (startedIn t r) c 0) ≡ u → (v : Bool) → isMark (getD (startedIn t a) c 0) ≡ v → getD (startsIn t a) c 0 ≡ getD (startsIn t b) c 0
-      go true d v e = x .clock-kept c l d ∙ sym (y .clock-kept c l d)
-      go false d true e = x .clock-starts c l (λ f. false≢true (sym d ∙ f)) e ∙ sym (y .clock-starts c l (λ f. false≢true (sym d ∙ f)) (rw flags-same at e))
-      go false d false e = x .clock-unstarted c l (λ f. false≢true (sym e ∙ f)) ∙ sym (y .clock-unstarted c l (λ f. false≢true (sym (rw flags-same at e) ∙ f)))
+      go : ((p : ℕ) × StartAt t (marksIn t r) c p) ⊎ ((p : ℕ) → StartAt t (marksIn t r) c p → ⊥) → (getD (startedIn t a) c 0 ≡ getD (startedIn t b) c 0) × (getD (startsIn t a) c 0 ≡ getD (startsIn t b) c 0)
+      go (inl (p, s)) = let (f, g) = x .clock-set c l p s in let (h, k) = y .clock-set c l p s in (f ∙ sym h, g ∙ sym k)
+      go (inr n) = let (f, g) = x .clock-kept c l n in let (h, k) = y .clock-kept c l n in (f ∙ sym h, g ∙ sym k)
 
   -- two records that meet those about one settling
   pub settling-only : Bytes a → Bytes b → a ≡ b
@@ -231,8 +225,8 @@ module _ (t r est a b : List ℕ) (h : isTable t ≡ true) (x : SettlingSteps t 
         phases = x .phase-settled ∙ ap (λ (e : Bool). cond e finished waiting) (ends-same 0) ∙ sym (y .phase-settled);
         times = x .time-kept ∙ sym (y .time-kept);
         estimates = x .estimate-stored ∙ sym (y .estimate-stored);
-        flags = flags-same;
-        starts = same-starts t a b start-same;
+        flags = same-list (startedIn t a) (startedIn t b) (same-length a b startedPlace (clocks t)) (λ c l. clock-same c (rw length-bytes at l) .0);
+        starts = same-starts t a b (λ c l. clock-same c l .1);
         marks = settled-same;
         spares = λ i k. x .settled-spare i k ∙ sym (y .settled-spare i k);
         lengths = x .settled-length ∙ sym (y .settled-length);

@@ -9,16 +9,17 @@ use mathlib.Core.List.{List, [], _∷_, map}
 use lib.ListN.{length, getD, set, drop}
 use lib.Seq.{sets, length-sets}
 use Rattle.base.specs.Lists.{flat, bytesAt}
-use Rattle.base.proofs.Lists.{length-tabulate, getD-tabulate, tabulate-same}
+use Rattle.base.proofs.Lists.{getD-tabulate, tabulate-same}
 use Rattle.base.proofs.Stores.{length-bytes, getD-bytes, getD-sets-out, drop-bytes, bytes-sets-out, bytes-sets, drop-sets-out}
 use Rattle.meaning.specs.Sizes.{maxParts, timeWidth, littleEndian, littleEndianValue, timeLimit}
 use Rattle.meaning.specs.Program.{parts, variables, clocks}
 use Rattle.meaning.specs.Table.{isTable}
-use Rattle.meaning.specs.Record.{timePlace, estimatePlace, startedPlace, startsPlace, marksPlace, recordLength, timeAt, lastTime, estimateIn, startedIn, startsIn, marksIn, offered, waiting, finished}
-use Rattle.meaning.specs.Cycle.{checkedMarks, offeredRecord, offerRefusal, offeredInto, settledMarks, settledRecord, settleRefusal, settledInto, rootEnded, startingLeaves, clockFlags, clockStarts}
+use Rattle.meaning.specs.Record.{timePlace, estimatePlace, startedPlace, startsPlace, marksPlace, recordLength, timeAt, lastTime, estimateIn, startedIn, startsIn, marksIn, startedFlag, offered, waiting, finished}
+use Rattle.meaning.specs.Cycle.{checkedMarks, offeredRecord, offerRefusal, offeredInto, settledMarks, settledRecord, settleRefusal, settledInto, rootEnded, startingLeaves, settledFlags, settledStarts}
 use Rattle.sentences.specs.Fields.{Fields, Bytes, Spare}
 use Rattle.meaning.proofs.Tables.{table-held}
-use Rattle.meaning.proofs.Records.{time-back, times-back, length-times, length-checked, length-settled, starts-below, allowed-long, estimate-fits}
+use Rattle.meaning.proofs.Clocks.{length-after, each-after}
+use Rattle.meaning.proofs.Records.{time-back, times-back, length-times, length-checked, length-settled, allowed-long, estimate-fits}
 use Rattle.meaning.proofs.Refusals.{offer-tests, settle-tests, settled-phase}
 
 -- Where the fields stand, one after the other
@@ -191,32 +192,25 @@ module _ (t r : List ℕ) (time room : ℕ) (h : offerRefusal t r time room ≡ 
 
 -- "If the root ends, phase is 2, else 0"; "The new estimate is stored"; clocks and marks are those of the settling, and all else stays
 module _ (t r est : List ℕ) (h : settleRefusal t r est ≡ 0) where
-  abbrev flags : List ℕ
-  flags = clockFlags (clocks t) (startingLeaves t r) (startedIn t r)
-
-  abbrev times : List ℕ
-  times = clockStarts (clocks t) (startingLeaves t r) (startedIn t r) (startsIn t r) (lastTime r)
-
-  times-small : Bytes r → (c : ℕ) → c < clocks t → getD times c 0 < timeLimit
+  times-small : Bytes r → (c : ℕ) → c < clocks t → getD (settledStarts t r) c 0 < timeLimit
   times-small bytes =
-      starts-below (clocks t) (startingLeaves t r) (startedIn t r) (startsIn t r) (lastTime r) (timeLimit)
+      each-after (clocks t) (lastTime r) (startingLeaves t r) (startsIn t r) (λ x. x < timeLimit) (time-small r bytes timePlace)
       (λ c l. rw getD-tabulate (time-small r bytes (startsPlace + timeWidth * (0 + c))))
-      (time-small r bytes timePlace)
 
   abbrev settleStores : List (ℕ × List ℕ)
-  settleStores = (0, cond (rootEnded (settledMarks t r est)) finished waiting ∷ []) ∷ (2, est) ∷ (3, flags) ∷ (4, flat (littleEndian timeWidth) times) ∷ (5, settledMarks t r est) ∷ []
+  settleStores = (0, cond (rootEnded (settledMarks t r est)) finished waiting ∷ []) ∷ (2, est) ∷ (3, settledFlags t r) ∷ (4, flat (littleEndian timeWidth) (settledStarts t r)) ∷ (5, settledMarks t r est) ∷ []
 
-  length-starts : length times ≡ clocks t
-  length-starts = length-tabulate _ 0 (clocks t)
+  length-starts : length (settledStarts t r) ≡ clocks t
+  length-starts = length-after (clocks t) (lastTime r) (startingLeaves t r) (startsIn t r)
 
   settle-fitting : Fitting (fields t) settleStores
   settle-fitting =
-      let w : length (flat (littleEndian timeWidth) times) ≡ timeWidth * clocks t = rw length-starts at (length-times times) in
-      (omega arith, refl, (omega arith, estimate-fits t est (settle-tests t r est h .1 .1 .1 .1 .0) .0, (omega arith, length-tabulate _ 0 (clocks t), (omega arith, w, (omega arith, length-settled t _ 0 (marksIn t r) ∙ length-bytes r marksPlace (parts t), tt)))))
+      let w : length (flat (littleEndian timeWidth) (settledStarts t r)) ≡ timeWidth * clocks t = rw length-starts at (length-times (settledStarts t r)) in
+      (omega arith, refl, (omega arith, estimate-fits t est (settle-tests t r est h .1 .1 .1 .1 .0) .0, (omega arith, length-after (clocks t) startedFlag (startingLeaves t r) (startedIn t r), (omega arith, w, (omega arith, length-settled t _ 0 (marksIn t r) ∙ length-bytes r marksPlace (parts t), tt)))))
 
   -- a time is read back where the record is one of bytes
   pub settled-record : Bytes r
-      → Fields t (settledInto t r est) (cond (rootEnded (settledMarks t r est)) finished waiting) (lastTime r) est flags times (settledMarks t r est) (drop recordLength r)
+      → Fields t (settledInto t r est) (cond (rootEnded (settledMarks t r est)) finished waiting) (lastTime r) est (settledFlags t r) (settledStarts t r) (settledMarks t r est) (drop recordLength r)
   unfolding settledInto
   settled-record bytes =
       let order = in-order t (settle-tests t r est h .0) in
@@ -227,7 +221,7 @@ module _ (t r est : List ℕ) (h : settleRefusal t r est ≡ 0) where
         time-is = time-same (settledRecord t r est) r timePlace timeWidth (ap (λ (cs : List (List ℕ)). getD cs 1 []) (a .1)) 0 (omega arith);
         estimate-is = ap (λ (cs : List (List ℕ)). getD cs 2 []) (a .1);
         started-is = ap (λ (cs : List (List ℕ)). getD cs 3 []) (a .1);
-        starts-are = times-read t (settledRecord t r est) times length-starts (λ c l. times-small bytes c (rw length-starts at l)) (omega (arith, a .0, field-within 0 (fields t) order 4 (omega arith) .1)) (ap (λ (cs : List (List ℕ)). getD cs 4 []) (a .1));
+        starts-are = times-read t (settledRecord t r est) (settledStarts t r) length-starts (λ c l. times-small bytes c (rw length-starts at l)) (omega (arith, a .0, field-within 0 (fields t) order 4 (omega arith) .1)) (ap (λ (cs : List (List ℕ)). getD cs 4 []) (a .1));
         marks-are = ap (λ (cs : List (List ℕ)). getD cs 5 []) (a .1);
         more-is = a .2;
       })

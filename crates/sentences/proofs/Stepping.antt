@@ -18,16 +18,16 @@ use Rattle.meaning.specs.declared.Entry.{Entry}
 use Rattle.meaning.specs.declared.Form.the-variants.{Table}
 use Rattle.meaning.specs.Sizes.{timeLimit}
 use Rattle.meaning.specs.Kinds.{MAINTAIN, kindOf, numberOf}
-use Rattle.meaning.specs.Program.{parts, variables, clocks, entryAt}
+use Rattle.meaning.specs.Program.{parts, variables, entryAt}
 use Rattle.meaning.specs.Table.{kindAt, operandOf, endAt, Inside, isTable}
 use Rattle.meaning.specs.Conditions.{Situation, violated}
-use Rattle.meaning.specs.Record.{estimatePlace, startedPlace, startsPlace, marksPlace, recordLength, phaseOf, lastTime, estimateIn, startedIn, startsIn, marksIn, isMark, restZero, recordAllowed, waiting, finished}
-use Rattle.meaning.specs.Cycle.{initialMarks, isKind, breaks, checkedFrom, situation, beginRefusal, begunInto, offeredGoals, offeredName, offerRefusal, offeredInto, goalsInto, settleRefusal, settledInto, startingLeaves, settledFlags}
+use Rattle.meaning.specs.Record.{estimatePlace, startedPlace, startsPlace, marksPlace, recordLength, phaseOf, lastTime, estimateIn, startedIn, startsIn, marksIn, isMark, startedFlag, restZero, recordAllowed, waiting, finished}
+use Rattle.meaning.specs.Cycle.{initialMarks, isKind, breaks, checkedFrom, situation, beginRefusal, begunInto, offeredGoals, offeredName, offerRefusal, offeredInto, goalsInto, settleRefusal, settledInto}
 use Rattle.meaning.proofs.Lies.{own-row, own-kind}
 use Rattle.meaning.proofs.Nesting.{lower, at, outer-part}
 use Rattle.meaning.proofs.Refusals.{offer-tests, goal-bytes-into, settle-tests}
 use Rattle.meaning.proofs.Tables.{root-there, root-end}
-use Rattle.meaning.proofs.Records.{length-root, begin-tests, begun-fits, begun-bytes, rest-zero, flags-small}
+use Rattle.meaning.proofs.Records.{length-root, begin-tests, begun-fits, begun-bytes, rest-zero}
 use Rattle.sentences.specs.Marks.{Marked, Flags}
 use Rattle.sentences.specs.Fields.{Bytes, Spare}
 use Rattle.sentences.specs.Stepping.{BegunWith, BeginningSteps, Broken, OfferSteps, SettlingSteps}
@@ -39,7 +39,7 @@ use Rattle.sentences.proofs.Checked.{offer-marks}
 use Rattle.sentences.proofs.GoalBytes.{no-goal, goal-agreed, goal-contested}
 use Rattle.sentences.proofs.Naming.{offered-lowest}
 use Rattle.sentences.proofs.RecordFields.{offered-record, offered-spare, offered-length, settled-record, settled-spare, settled-length}
-use Rattle.sentences.proofs.ClockStarts.{clock-flag, clock-kept as kept, clock-started as started, clock-unstarted as unstarted}
+use Rattle.sentences.proofs.ClockStarts.{named-set, unnamed-kept}
 use Rattle.sentences.proofs.AfterSettling.{settled-marks}
 use Rattle.sentences.proofs.Endings.{settling-endings}
 
@@ -194,11 +194,8 @@ module _ (t r est : List ℕ) (h : settleRefusal t r est ≡ 0) where
         endings = settling-endings t table sit ms whole (phaseOf r) allowed;
         marks-settled = rw (f .marks-are) (settled-marks t table sit ms whole (phaseOf r) allowed);
         settled-flags = rw (f .marks-are) (flags-settled t sit ms 0);
-        clock-flags = λ c l. rw (f .started-is) (clock-flag t ms (startedIn t r) (startsIn t r) (lastTime r) c l);
-        clock-kept = λ c l. rw (f .starts-are) (kept t ms (startedIn t r) (startsIn t r) (lastTime r) c l);
-        clock-starts = λ c l. rw (f .started-is, f .starts-are) (started t ms (startedIn t r) (startsIn t r) (lastTime r) c l);
-        clock-unstarted = λ c l. rw (f .started-is, f .starts-are) (unstarted t ms (startedIn t r) (startsIn t r) (lastTime r) c l);
-        started-flags = rw (f .started-is) (small-flags (settledFlags t r) (flags-small (clocks t) (startingLeaves t r) (startedIn t r)));
+        clock-set = λ c l p a. rw (f .started-is, f .starts-are) (named-set t ms (startedIn t r) startedFlag c l p a, named-set t ms (startsIn t r) (lastTime r) c l p a);
+        clock-kept = λ c l n. rw (f .started-is, f .starts-are) (unnamed-kept t ms (startedIn t r) startedFlag c l n, unnamed-kept t ms (startsIn t r) (lastTime r) c l n);
         phase-settled = f .phase-is ∙ rw (root-ends t table sit ms root-runs);
         estimate-stored = f .estimate-is;
         time-kept = f .time-is;

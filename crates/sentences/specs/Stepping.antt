@@ -11,9 +11,9 @@ use Rattle.meaning.specs.Kinds.{GOAL, START, WAIT, SEQ, PAR, MAINTAIN, REPEAT}
 use Rattle.meaning.specs.Program.{variables, clocks, entryAt}
 use Rattle.meaning.specs.Table.{kindAt, operandOf, endAt, nextAt, Inside}
 use Rattle.meaning.specs.Conditions.{Situation, reached, satisfied, violated}
-use Rattle.meaning.specs.Record.{recordLength, phaseOf, lastTime, estimateIn, startedIn, startsIn, marksIn, waiting, offered, finished}
+use Rattle.meaning.specs.Record.{recordLength, phaseOf, lastTime, estimateIn, startedIn, startsIn, marksIn, startedFlag, waiting, offered, finished}
 use Rattle.meaning.specs.Cycle.{isLeaf, noGoal, contested, situation}
-use Rattle.sentences.specs.Marks.{Marked, Started, Flags, Deciding, NoGoalAt, GoalsAgree, GoalsDiffer, NamesLowest, StartAt}
+use Rattle.sentences.specs.Marks.{Marked, Flags, Deciding, NoGoalAt, GoalsAgree, GoalsDiffer, NamesLowest, StartAt}
 use Rattle.sentences.specs.Fields.{Spare}
 use Rattle.sentences.specs.Allowed.{Child}
 
@@ -110,12 +110,9 @@ pub record SettlingSteps (t r est r' : List ℕ) : Type 0 where
   -- the parts that are marked afterwards: those that stay, and those that are initialised
   pub marks-settled : (p : ℕ) → Marked (marksIn t r') p ↔ (StaysMarked (marksIn t r) ends p ⊎ ((q : ℕ) × MarkedBy t (situation t r est (lastTime r)) (marksIn t r) ends q p))
   pub settled-flags : Flags (marksIn t r')
-  -- "A marked START starts its clock at the last time unless that clock is already started"
-  pub clock-flags : (c : ℕ) → c < clocks t → Started t r' c ↔ (Started t r c ⊎ ((p : ℕ) × StartAt t (marksIn t r) c p))
-  pub clock-kept : (c : ℕ) → c < clocks t → Started t r c → getD (startsIn t r') c 0 ≡ getD (startsIn t r) c 0
-  pub clock-starts : (c : ℕ) → c < clocks t → (Started t r c → ⊥) → Started t r' c → getD (startsIn t r') c 0 ≡ lastTime r
-  pub clock-unstarted : (c : ℕ) → c < clocks t → (Started t r' c → ⊥) → getD (startsIn t r') c 0 ≡ 0
-  pub started-flags : Flags (startedIn t r')
+  -- "From now on every marked START sets its clock to the cycle's time" (document 02, R-2), and any other clock stays as it was
+  pub clock-set : (c : ℕ) → c < clocks t → (p : ℕ) → StartAt t (marksIn t r) c p → (getD (startedIn t r') c 0 ≡ startedFlag) × (getD (startsIn t r') c 0 ≡ lastTime r)
+  pub clock-kept : (c : ℕ) → c < clocks t → ((p : ℕ) → StartAt t (marksIn t r) c p → ⊥) → (getD (startedIn t r') c 0 ≡ getD (startedIn t r) c 0) × (getD (startsIn t r') c 0 ≡ getD (startsIn t r) c 0)
   -- "If the root ends, phase is 2 and the answer "finished", else 0 and "running""
   pub phase-settled : phaseOf r' ≡ cond (ends 0) finished waiting
   -- "The new estimate is stored"

@@ -16,7 +16,7 @@ use Rattle.meaning.specs.Record.{recordLength}
 use Rattle.meaning.specs.Cycle.{valuesFor, goalBytes, estimateAllowed, beginRefusal}
 use Rattle.meaning.proofs.Computed.{read}
 use Rattle.agreement.specs.Unfolding.{afresh, check, working, settle}
-use Rattle.agreement.specs.Runs.{treeNext, treeReply, treeFinishing, lowestAtWork, Timed, RunsAlike}
+use Rattle.agreement.specs.Runs.{treeNext, treeReply, treeFinishing, lowestAtWork, startEach, Timed, RunsAlike}
 use Rattle.agreement.proofs.Agreement.{runs-alike}
 use Rattle.stations.specs.Stations.{Station, finishesWith, offersAt, AnyHold, sameReply, sameReplies, byTable, byTree, holds}
 
@@ -47,7 +47,7 @@ module _ (x : Station) (accepted : programRefusal File (x .file) ≡ 0) (allowed
 
 -- stations 2 and 3, for all
 pub any-hold : AnyHold
-unfolding treeFinishing lowestAtWork sameReply sameReplies byTree read outcome reached satisfied violated valuesFor goalBytes estimateAllowed afresh check working settle treeNext treeReply
+unfolding treeFinishing lowestAtWork startEach sameReply sameReplies byTree read outcome reached satisfied violated valuesFor goalBytes estimateAllowed afresh check working settle treeNext treeReply
 any-hold =
     record {
       any-settling = λ time e short fits. by-tree-alone (finishesWith time e) refl refl (short, tt) refl (rw (le-leb 0 time (omega arith), le-leb e maxValue fits));

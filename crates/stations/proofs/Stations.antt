@@ -3,9 +3,9 @@ use mathlib.Core.Path.{_≡_, refl}
 use mathlib.Core.Bool.{true}
 use Rattle.meaning.proofs.Computed.{settle as settleCall}
 use Rattle.agreement.specs.Unfolding.{afresh, check, working, settle}
-use Rattle.agreement.specs.Runs.{treeNext, treeReply, tableFinishing, treeFinishing, lowestAtWork}
-use Rattle.stations.specs.Stations.{stations, further, contestedStations, sameReply, sameReplies, byTable, byTree, holds, allHold}
+use Rattle.agreement.specs.Runs.{treeNext, treeReply, tableFinishing, treeFinishing, lowestAtWork, startEach}
+use Rattle.stations.specs.Stations.{stations, further, contestedStations, restartedStations, sameReply, sameReplies, byTable, byTree, holds, allHold}
 
 pub ten-stations : allHold ≡ true
-unfolding stations further contestedStations lowestAtWork tableFinishing treeFinishing sameReply sameReplies byTable byTree holds settleCall afresh check working settle treeNext treeReply
+unfolding stations further contestedStations restartedStations lowestAtWork startEach tableFinishing treeFinishing sameReply sameReplies byTable byTree holds settleCall afresh check working settle treeNext treeReply
 ten-stations = refl

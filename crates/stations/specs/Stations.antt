@@ -1,5 +1,5 @@
--- The ten stations of document 01, further programs, and those of document 02's R-1: tables of them, and what it is for one of them to hold by the
--- table's definitions and by the unfolding.
+-- The ten stations of document 01, further programs, and those of document 02's R-1 and R-2: tables of them, and what it is for one of them to hold by
+-- the table's definitions and by the unfolding.
 use Prim.Native.Nat.{ℕ, suc, _≤_, _<_}
 use mathlib.Core.Path.{_≡_}
 use mathlib.Core.Bool.{Bool, true, false, cond, _&&_}
@@ -7,7 +7,7 @@ use mathlib.Core.Option.{Option, none, some}
 use mathlib.Core.List.{List, [], _∷_, _++_}
 use lib.Dec.{eqb}
 use lib.ListN.{replicate}
-use Rattle.base.specs.Lists.{all, same}
+use Rattle.base.specs.Lists.{all, flat, same}
 use Rattle.meaning.specs.declared.Form.the-variants.{File}
 use Rattle.meaning.specs.Sizes.{maxValue, timeLimit}
 use Rattle.meaning.specs.Tree.{Part}
@@ -90,7 +90,8 @@ waits = 0x03 ∷ 0x01 ∷ 0x01 ∷ 0x04 ∷ 0x02 ∷ 0x03 ∷ 0x02 ∷ 0x00 ∷ 
 abbrev pub repeats : ℕ → List ℕ
 repeats n = program (suc n) (replicate n 8 ++ (1 ∷ [])) (replicate n 0 ++ (replicate n 0 ++ (replicate n 0 ++ (replicate n 0 ++ (0 ∷ 0 ∷ 1 ∷ 0 ∷ [])))))
 
--- Stations 1 to 9 in their order; 2 with "any settling" at either side of its condition, 3 at the least and the greatest first time (`AnyHold` has all)
+-- Stations 1 to 9 in their order; 2 with "any settling" at either side of its condition, 3 at the least and the greatest first time (`AnyHold` has all);
+-- "Station 7 then ends with start 20" (document 02, R-2)
 unfoldable pub stations : List Station
 stations =
     station goal1 0 (at 0 ∷ with-estimate 0 ∷ at 0 ∷ with-estimate 1 ∷ []) (goal-is 1 ∷ running ∷ goal-is 1 ∷ done ∷ []) (some 2)
@@ -101,7 +102,7 @@ stations =
     ∷ station branches 0 (at 0 ∷ with-estimate 0 ∷ at 0 ∷ []) (goal-is 255 ∷ running ∷ goal-is 2 ∷ []) none
     ∷ station contests 0 (at 0 ∷ with-estimate 1 ∷ at 0 ∷ []) (contested-is ∷ running ∷ goal-is 2 ∷ []) none
     ∷ station (repeats 1) 0 (at 0 ∷ with-estimate 1 ∷ at 0 ∷ []) (goal-is 1 ∷ running ∷ goal-is 1 ∷ []) none
-    ∷ startingStation starts2 (at 10 ∷ with-estimate 0 ∷ at 20 ∷ with-estimate 0 ∷ []) (goal-is 255 ∷ running ∷ goal-is 255 ∷ done ∷ []) (some 2) 10
+    ∷ startingStation starts2 (at 10 ∷ with-estimate 0 ∷ at 20 ∷ with-estimate 0 ∷ []) (goal-is 255 ∷ running ∷ goal-is 255 ∷ done ∷ []) (some 2) 20
     ∷ startingStation waits (at 100 ∷ with-estimate 0 ∷ at 109 ∷ with-estimate 0 ∷ at 110 ∷ with-estimate 0 ∷ []) (goal-is 255 ∷ running ∷ goal-is 255 ∷ running ∷ goal-is 255 ∷ done ∷ []) (some 3) 100
     ∷ station (repeats 15) 0 (at 0 ∷ []) (goal-is 1 ∷ []) none
     ∷ refusedStation (repeats 16) tooDeep
@@ -162,6 +163,52 @@ contestedStations =
     (goals (contested ∷ replicate 30 noGoal ++ (contested ∷ [])) 0 ∷ running ∷ goals (2 ∷ replicate 30 noGoal ++ (contested ∷ [])) 31 ∷ [])
     ∷ []
 
+-- "Stations that repeat a dip start the dip clock in every round, and only the first start counts. … From now on every marked START sets its clock to the
+-- cycle's time" (document 02, R-2). REPEAT(SEQ(START 0, WAIT clock 0 at least 10, GOAL 0=1)) waits in the second round for as long as in the first. PAR(SEQ(START 0, START 0), WAIT) and PAR(WAIT, SEQ(START 0, START 0)): the WAIT beside the second
+-- START reads the first start, for clock 0 at least 5 (due at 15, not at 14) and below 3. SEQ(START 0, MAINTAIN(0≠2, START 0)), violated: the START
+-- inside starts nothing. SEQ(START 0, START 0) at one time, and PAR(START 0, START 0)
+abbrev pub dips : List ℕ
+dips = program 5 (8 ∷ 4 ∷ 2 ∷ 3 ∷ 1 ∷ []) (0 ∷ 0 ∷ 0 ∷ 0 ∷ 3 ∷ 0 ∷ 0 ∷ 0 ∷ 0 ∷ 0 ∷ 0 ∷ 0 ∷ 3 ∷ 0 ∷ 10 ∷ 0 ∷ 0 ∷ 0 ∷ 1 ∷ 0 ∷ [])
+
+-- a WAIT on clock 0, by its test and value, after and before the two STARTs
+abbrev pub startsThenWait : ℕ → ℕ → List ℕ
+startsThenWait test limit = program 5 (5 ∷ 4 ∷ 2 ∷ 2 ∷ 3 ∷ []) (2 ∷ 0 ∷ 0 ∷ 0 ∷ 2 ∷ 0 ∷ 0 ∷ 0 ∷ 0 ∷ 0 ∷ 0 ∷ 0 ∷ 0 ∷ 0 ∷ 0 ∷ 0 ∷ test ∷ 0 ∷ limit ∷ 0 ∷ [])
+
+abbrev pub waitThenStarts : ℕ → ℕ → List ℕ
+waitThenStarts test limit = program 5 (5 ∷ 3 ∷ 4 ∷ 2 ∷ 2 ∷ []) (2 ∷ 0 ∷ 0 ∷ 0 ∷ test ∷ 0 ∷ limit ∷ 0 ∷ 2 ∷ 0 ∷ 0 ∷ 0 ∷ 0 ∷ 0 ∷ 0 ∷ 0 ∷ 0 ∷ 0 ∷ 0 ∷ 0 ∷ [])
+
+abbrev pub guardedStart : List ℕ
+guardedStart = program 4 (4 ∷ 2 ∷ 6 ∷ 2 ∷ []) (2 ∷ 0 ∷ 0 ∷ 0 ∷ 0 ∷ 0 ∷ 0 ∷ 0 ∷ 2 ∷ 0 ∷ 2 ∷ 0 ∷ 0 ∷ 0 ∷ 0 ∷ 0 ∷ [])
+
+abbrev pub startsTogether : List ℕ
+startsTogether = program 3 (5 ∷ 2 ∷ 2 ∷ []) (2 ∷ 0 ∷ 0 ∷ 0 ∷ 0 ∷ 0 ∷ 0 ∷ 0 ∷ 0 ∷ 0 ∷ 0 ∷ 0 ∷ [])
+
+-- cycles at some times, each with the estimate 0, of a program that offers no goal: it runs on until it is done with the last
+abbrev pub goallessCalls : List ℕ → List Call
+goallessCalls times = flat (λ time. at time ∷ with-estimate 0 ∷ []) times
+
+abbrev pub goallessReplies : ℕ → List Reply
+goallessReplies n = flat (λ r. goal-is 255 ∷ r ∷ []) (replicate n running ++ (done ∷ []))
+
+abbrev pub goallessStation : List ℕ → List ℕ → ℕ → ℕ → Station
+goallessStation f times n start = startingStation f (goallessCalls times) (goallessReplies n) (some (suc n)) start
+
+unfoldable pub restartedStations : List Station
+restartedStations =
+    startingStation dips
+    (at 10 ∷ with-estimate 0 ∷ at 20 ∷ with-estimate 0 ∷ at 20 ∷ with-estimate 1 ∷ at 21 ∷ with-estimate 0 ∷ at 30 ∷ with-estimate 0 ∷ at 31 ∷ with-estimate 0 ∷ at 31 ∷ [])
+    (goal-is 255 ∷ running ∷ goal-is 255 ∷ running ∷ goal-is 1 ∷ running ∷ goal-is 255 ∷ running ∷ goal-is 255 ∷ running ∷ goal-is 255 ∷ running ∷ goal-is 1 ∷ [])
+    none
+    21
+    ∷ goallessStation (startsThenWait 3 5) (10 ∷ 15 ∷ []) 1 15
+    ∷ goallessStation (waitThenStarts 3 5) (10 ∷ 15 ∷ []) 1 15
+    ∷ goallessStation (startsThenWait 3 5) (10 ∷ 14 ∷ 19 ∷ []) 2 14
+    ∷ goallessStation (waitThenStarts 4 3) (10 ∷ 15 ∷ 17 ∷ []) 2 15
+    ∷ startingStation guardedStart (at 10 ∷ with-estimate 2 ∷ at 20 ∷ with-estimate 2 ∷ []) (goal-is 255 ∷ running ∷ goal-is 255 ∷ done ∷ []) (some 2) 10
+    ∷ goallessStation starts2 (10 ∷ 10 ∷ []) 1 10
+    ∷ goallessStation startsTogether (7 ∷ []) 0 7
+    ∷ []
+
 -- Station 10: "The file .. and its table below"
 abbrev pub table10 : List ℕ
 table10 =
@@ -219,16 +266,16 @@ byTree x (some p) =
     let v = variables (x .file) in
     let k = clocks (x .file) in
     let b = begin p k (x .first) in
-    let after = treeAfter p v k b (x .calls) in
-    sameReplies (treeReplies p v k b (x .calls)) (x .replies)
-    && (sameNumber (treeFinishing p v k b 0 (x .calls)) (x .finishing)
+    let after = treeAfter p v b (x .calls) in
+    sameReplies (treeReplies p v b (x .calls)) (x .replies)
+    && (sameNumber (treeFinishing p v b 0 (x .calls)) (x .finishing)
     && (same (after .started) (x .started) && same (after .starts) (x .starts)))
 
 unfoldable pub holds : Station → Bool
 holds x = eqb (programRefusal File (x .file)) (x .answer) && cond (eqb (x .answer) 0) (byTable x && byTree x (treeOf File (x .file))) true
 
 abbrev pub allHold : Bool
-allHold = all holds stations && (same (compiled File waits) table10 && (all holds further && all holds contestedStations))
+allHold = all holds stations && (same (compiled File waits) table10 && (all holds further && (all holds contestedStations && all holds restartedStations)))
 
 -- Stations 2 and 3 for all: "any settling finishes" after an offer at any time, with any estimate that is allowed; "goals 01 at any first time"
 abbrev pub finishesWith : ℕ → ℕ → Station

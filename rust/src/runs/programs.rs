@@ -3,7 +3,7 @@
 
 use crate::cases::{self, Draft, DraftPart, Shape};
 use crate::parts::{
-    count_bytes, operand_bytes, Kind, Test, CHOICE, GOAL, MAINTAIN, REPEAT, SEQ, START, WAIT,
+    count_bytes, operand_bytes, Kind, Test, CHOICE, GOAL, MAINTAIN, PAR, REPEAT, SEQ, START, WAIT,
 };
 use crate::rng::Rng;
 use crate::sizes::{MAX_CLOCKS, MAX_DEPTH, MAX_PARTS, MAX_VALUE, MAX_VARIABLES, OPERAND_LEN};
@@ -114,6 +114,50 @@ fn contending_part(rng: &mut Rng, part: DraftPart, variables: u8) -> DraftPart {
     match part.kind {
         GOAL | START | WAIT if !rng.one_in(6) => draft_part(Kind::Goal, goal),
         SEQ if !rng.one_in(3) => draft_part(Kind::Par, part.operand),
+        _ => part,
+    }
+}
+
+/// The file of a random program that starts its few clocks again and again, and has conditions over
+/// them with low limits: so the old start and the new one are told apart.
+pub fn restarting_program(rng: &mut Rng) -> Vec<u8> {
+    let parts = rng.between(3, 20);
+    let depth = rng.between(2, 6);
+    let shape = rng.pick(&[Shape::Deep, Shape::Wide, Shape::Mixed]);
+    let mut draft = cases::program(rng, parts, depth, shape);
+    draft.variables = 2;
+    draft.clocks = rng.pick(&[1, 1, 2, MAX_CLOCKS as u8]);
+    for part in &mut draft.parts {
+        *part = restarting_part(rng, *part, draft.clocks);
+    }
+    if rng.one_in(2) {
+        draft
+            .parts
+            .insert(0, draft_part(Kind::Repeat, [0; OPERAND_LEN]));
+    }
+    draft.file()
+}
+
+/// Another part in place of this one, with as many children.
+fn restarting_part(rng: &mut Rng, part: DraftPart, clocks: u8) -> DraftPart {
+    let test = rng.pick(&[Test::AtLeast, Test::Below]);
+    let limit = rng.pick(&[0, 1, 1, 2, 2, 3, 5]);
+    let over_clock = operand_bytes(test as u8, subject(rng, clocks), limit);
+    let in_time = operand_bytes(Test::Below as u8, subject(rng, clocks), limit.max(2));
+    let unbroken = operand_bytes(Test::Differs as u8, rng.below(2) as u8, 2);
+    let goal = operand_bytes(0, rng.below(2) as u8, rng.pick(&[0, 1, 2]));
+    match part.kind {
+        GOAL | START | WAIT => match rng.below(8) {
+            0..=3 => draft_part(Kind::Start, operand_bytes(0, subject(rng, clocks), 0)),
+            4..=6 => draft_part(Kind::Wait, over_clock),
+            _ => draft_part(Kind::Goal, goal),
+        },
+        MAINTAIN => draft_part(
+            Kind::Maintain,
+            rng.pick(&[in_time, in_time, over_clock, unbroken]),
+        ),
+        CHOICE => draft_part(Kind::Choice, over_clock),
+        SEQ | PAR if part.operand == count_bytes(1) => draft_part(Kind::Repeat, [0; OPERAND_LEN]),
         _ => part,
     }
 }

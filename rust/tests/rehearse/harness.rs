@@ -7,7 +7,9 @@ use std::path::Path;
 use gurvoke::counts::{named, Counts};
 use gurvoke::hex::hex;
 use gurvoke::programs::{Program, TemporaryFile};
-use gurvoke::rehearsal::Rehearsal;
+use gurvoke::rehearsal::{read_line, Answer, LatestRun, Line, Rehearsal};
+use gurvoke::runs::{StartCounts, Starts};
+use gurvoke::unfolding;
 
 pub const REHEARSE: Program = Program::named("rehearse");
 
@@ -70,6 +72,7 @@ pub fn assert_same(name: &str, is: &str, should: &str, rehearsal: &Rehearsal) {
 pub struct Tally {
     pub rehearsals: u64,
     lines: BTreeMap<String, u64>,
+    starts: StartCounts,
 }
 
 impl Tally {
@@ -79,6 +82,28 @@ impl Tally {
         self.rehearsals += 1;
         for line in text.lines() {
             *self.lines.entry(kind(line)).or_default() += 1;
+        }
+        self.note_starts(rehearsal);
+    }
+
+    /// Notes what the settlings do to clocks, which the lines do not tell.
+    fn note_starts(&mut self, rehearsal: &Rehearsal) {
+        let Ok(program) = unfolding::Program::read(&rehearsal.file) else {
+            return;
+        };
+        let mut latest = LatestRun::new(&program);
+        for line in rehearsal.calls.split(|&byte| byte == b'\n') {
+            match read_line(line) {
+                Line::PassedOver => {}
+                Line::NoCall => return,
+                Line::Call(call) => {
+                    let starts = latest.run().map(Starts::of_settling);
+                    let settled = matches!(latest.call(&call), Answer::Settled(_));
+                    if let Some(starts) = starts.filter(|_| settled) {
+                        self.starts.note(&starts);
+                    }
+                }
+            }
         }
     }
 
@@ -101,6 +126,7 @@ impl Tally {
         for (kind, count) in &self.lines {
             counts.push((format!("lines {kind}"), *count));
         }
+        counts.extend(self.starts.counts());
         counts
     }
 }

@@ -56,6 +56,13 @@ fn contending_programs() {
     assert_counts(file!(), "contending_programs", &tally.counts());
 }
 
+/// Programs in which started clocks are often started again.
+#[test]
+fn restarting_programs() {
+    let tally = check_scripts(608, 200, runs::restarting_program);
+    assert_counts(file!(), "restarting_programs", &tally.counts());
+}
+
 /// Small programs, which finish often.
 #[test]
 fn small_programs() {

@@ -5,7 +5,7 @@ use gurvoke::builder::{
 };
 use gurvoke::counts::assert_counts;
 use gurvoke::executive::{Executive, ALL};
-use gurvoke::parts::{Condition, Part};
+use gurvoke::parts::{Condition, Label, Part};
 use gurvoke::record::{Phase, RECORD_LEN};
 use gurvoke::rng::Rng;
 use gurvoke::runs::Call;
@@ -17,61 +17,85 @@ use crate::harness::{of_all_executives, Board, Tally};
 /// common with those of leaves, conditions and contenders, so that a share meets all of them.
 const SHARE: usize = 11;
 
-/// Two variables with values 0 and 1, of which the second has always the other value than the
-/// first; one clock with the limit 1.
-fn conditions() -> [Condition; 4] {
-    [equals(0, 1), differs(0, 1), at_least(0, 1), below(0, 1)]
+/// What programs are made of.
+struct Alphabet {
+    leaves: Vec<Part>,
+    /// Of MAINTAINs and CHOICEs.
+    conditions: [Condition; 4],
 }
 
-fn leaves() -> Vec<Part> {
+/// Two variables with values 0 and 1, of which the second has always the other value than the
+/// first; one clock with the limit 1.
+fn alphabet() -> Alphabet {
     let waits = [equals(0, 1), at_least(0, 1), below(0, 1)].map(wait);
     let mut leaves = vec![goal(0, 0), goal(0, 1), goal(1, 0), goal(1, 1), start(0)];
     leaves.extend(waits);
-    leaves
+    Alphabet {
+        leaves,
+        conditions: [equals(0, 1), differs(0, 1), at_least(0, 1), below(0, 1)],
+    }
 }
 
-/// Every part above this one child.
-fn above_one(child: &Part) -> Vec<Part> {
-    let child = || child.clone();
-    let mut parts = vec![seq(vec![child()]), par(vec![child()]), repeat(child())];
-    parts.extend(conditions().map(|condition| maintain(condition, child())));
-    parts
+/// One clock with the limits 1 and 2, and nothing else.
+fn alphabet_of_a_clock() -> Alphabet {
+    let conditions = [at_least(0, 1), at_least(0, 2), below(0, 1), below(0, 2)];
+    let mut leaves = vec![start(0)];
+    leaves.extend(conditions.map(wait));
+    Alphabet { leaves, conditions }
 }
 
-/// Every part above these two children.
-fn above_two(first: &Part, second: &Part) -> Vec<Part> {
-    let pair = || vec![first.clone(), second.clone()];
-    let mut parts = vec![seq(pair()), par(pair())];
-    parts.extend(conditions().map(|condition| choice(condition, first.clone(), second.clone())));
-    parts
+impl Alphabet {
+    /// Every part above this one child.
+    fn above_one(&self, child: &Part) -> Vec<Part> {
+        let child = || child.clone();
+        let mut parts = vec![seq(vec![child()]), par(vec![child()]), repeat(child())];
+        let of_condition = |condition| maintain(condition, child());
+        parts.extend(self.conditions.map(of_condition));
+        parts
+    }
+
+    /// Every part above these two children.
+    fn above_two(&self, first: &Part, second: &Part) -> Vec<Part> {
+        let pair = || vec![first.clone(), second.clone()];
+        let mut parts = vec![seq(pair()), par(pair())];
+        let of_condition = |condition| choice(condition, first.clone(), second.clone());
+        parts.extend(self.conditions.map(of_condition));
+        parts
+    }
+
+    /// Every program of one part, of two, of three and of four.
+    fn programs(&self) -> [Vec<Part>; 4] {
+        let ones = self.leaves.clone();
+        let twos = self.above_each(&ones);
+        let mut threes = self.above_each(&twos);
+        let mut fours = Vec::new();
+        for first in &ones {
+            for second in &ones {
+                threes.extend(self.above_two(first, second));
+                for third in &ones {
+                    fours.extend(above_three([first, second, third]));
+                }
+            }
+            for second in &twos {
+                fours.extend(self.above_two(first, second));
+                fours.extend(self.above_two(second, first));
+            }
+        }
+        fours.extend(self.above_each(&threes));
+        [ones, twos, threes, fours]
+    }
+
+    /// Every part above one of these.
+    fn above_each(&self, children: &[Part]) -> Vec<Part> {
+        let above = |child| self.above_one(child);
+        children.iter().flat_map(above).collect()
+    }
 }
 
 /// Every part above these three children.
 fn above_three(children: [&Part; 3]) -> Vec<Part> {
     let children: Vec<Part> = children.into_iter().cloned().collect();
     vec![seq(children.clone()), par(children)]
-}
-
-/// Every program of one part, of two, of three and of four.
-fn programs() -> [Vec<Part>; 4] {
-    let ones = leaves();
-    let twos: Vec<Part> = ones.iter().flat_map(above_one).collect();
-    let mut threes: Vec<Part> = twos.iter().flat_map(above_one).collect();
-    let mut fours = Vec::new();
-    for first in &ones {
-        for second in &ones {
-            threes.extend(above_two(first, second));
-            for third in &ones {
-                fours.extend(above_three([first, second, third]));
-            }
-        }
-        for second in &twos {
-            fours.extend(above_two(first, second));
-            fours.extend(above_two(second, first));
-        }
-    }
-    fours.extend(threes.iter().flat_map(above_one));
-    [ones, twos, threes, fours]
 }
 
 fn offer(time: u32) -> Call {
@@ -101,14 +125,14 @@ fn shares(programs: &[Part]) -> Vec<(&'static Executive, Vec<Part>)> {
 fn begin_all<const VARIABLES: usize>(
     executive: &'static Executive,
     programs: &[Part],
-    firsts: [[u8; VARIABLES]; 2],
+    firsts: &[[u8; VARIABLES]],
     mut explore: impl FnMut(&mut Rng, Board, Run),
 ) {
     let mut rng = Rng::new(400);
     for root in programs {
         let file = file(VARIABLES, 1, root);
         let program = Program::read(&file).expect("a valid program");
-        for first in &firsts {
+        for first in firsts {
             let mut board = Board::new(&mut rng, executive, &file, RECORD_LEN);
             let begun = board.begin(&mut rng, &program, first);
             explore(&mut rng, board, begun.expect("an allowed estimate"));
@@ -130,7 +154,7 @@ fn every_list(
     for call in calls {
         let mut board = board.clone();
         let mut run = run.clone();
-        tally.note(&board.call(rng, &mut run, call));
+        tally.call(rng, (&mut board, &mut run), call);
         every_list(rng, tally, (&board, &run), calls, left - 1);
     }
 }
@@ -146,7 +170,7 @@ fn every_list_of_four_calls() {
         settle(&values(1)),
         settle(&values(251)),
     ];
-    let [ones, twos, threes, _] = programs();
+    let [ones, twos, threes, _] = alphabet().programs();
     let programs = [ones, twos, threes].concat();
     assert_eq!(programs.len(), 8 + 7 * 8 + 7 * 7 * 8 + 6 * 8 * 8);
     let mut counts = Vec::new();
@@ -155,7 +179,7 @@ fn every_list_of_four_calls() {
         begin_all(
             executive,
             &programs,
-            [values(0), values(1)],
+            &[values(0), values(1)],
             |rng, board, run| every_list(rng, &mut tally, (&board, &run), &calls, 4),
         );
         // Each list that is not empty ends with a call of its own.
@@ -178,11 +202,11 @@ fn every_cycle(rng: &mut Rng, tally: &mut Tally, (board, run): (&Board, &Run), c
     for time in run.time..=2 {
         let mut board = board.clone();
         let mut run = run.clone();
-        tally.note(&board.call(rng, &mut run, &offer(time)));
+        tally.call(rng, (&mut board, &mut run), &offer(time));
         for first in 0..=1 {
             let mut board = board.clone();
             let mut run = run.clone();
-            tally.note(&board.call(rng, &mut run, &settle(&values(first))));
+            tally.call(rng, (&mut board, &mut run), &settle(&values(first)));
             every_cycle(rng, tally, (&board, &run), cycles - 1);
         }
     }
@@ -191,7 +215,7 @@ fn every_cycle(rng: &mut Rng, tally: &mut Tally, (board, run): (&Board, &Run), c
 /// Every list of up to five cycles for every program of up to three parts.
 #[test]
 fn every_list_of_five_cycles() {
-    let [ones, twos, threes, _] = programs();
+    let [ones, twos, threes, _] = alphabet().programs();
     check_cycles(
         "every_list_of_five_cycles",
         &[ones, twos, threes].concat(),
@@ -202,7 +226,7 @@ fn every_list_of_five_cycles() {
 /// Every list of up to three cycles for every program of four parts.
 #[test]
 fn every_list_of_three_cycles() {
-    let [_, _, threes, fours] = programs();
+    let [_, _, threes, fours] = alphabet().programs();
     let pairs = 8 * 7 * 8;
     assert_eq!(
         fours.len(),
@@ -212,19 +236,70 @@ fn every_list_of_three_cycles() {
 }
 
 fn check_cycles(test: &str, programs: &[Part], cycles: usize) {
+    check_accepted(
+        test,
+        programs,
+        &[values(0), values(1)],
+        |rng, tally, (board, run)| every_cycle(rng, tally, (&board, &run), cycles),
+    );
+}
+
+/// Begins each program and explores its runs by calls of which none is refused.
+fn check_accepted<const VARIABLES: usize>(
+    test: &str,
+    programs: &[Part],
+    firsts: &[[u8; VARIABLES]],
+    explore: impl Fn(&mut Rng, &mut Tally, (Board, Run)),
+) {
     let mut counts = Vec::new();
     for (executive, share) in shares(programs) {
         let mut tally = Tally::default();
-        begin_all(
-            executive,
-            &share,
-            [values(0), values(1)],
-            |rng, board, run| every_cycle(rng, &mut tally, (&board, &run), cycles),
-        );
+        begin_all(executive, &share, firsts, |rng, board, run| {
+            explore(rng, &mut tally, (board, run))
+        });
         assert_eq!(tally.calls(), tally.offers + tally.running + tally.finished);
         counts.push(tally.counts());
     }
     assert_counts(file!(), test, &of_all_executives(&counts));
+}
+
+/// Whether a part is a START or has one inside.
+fn has_start(part: &Part) -> bool {
+    matches!(part.label, Label::Start { .. }) || part.children.iter().any(has_start)
+}
+
+/// Makes every list of up to `cycles` cycles in which the time stands still or goes on by one or two
+/// seconds.
+fn every_pace(rng: &mut Rng, tally: &mut Tally, (board, run): (&Board, &Run), cycles: usize) {
+    if cycles == 0 || run.phase == Phase::Finished {
+        return;
+    }
+    for seconds in 0..=2 {
+        let mut board = board.clone();
+        let mut run = run.clone();
+        let time = run.time + seconds;
+        tally.call(rng, (&mut board, &mut run), &offer(time));
+        tally.call(rng, (&mut board, &mut run), &settle(&values(0)));
+        every_pace(rng, tally, (&board, &run), cycles - 1);
+    }
+}
+
+/// Every program of up to four parts that are STARTs of one clock and conditions over it, and those of
+/// four under a REPEAT: a started clock is started again, at the same time and later, and conditions
+/// with limits on both sides of what it reads by either start are judged in that cycle and after it.
+#[test]
+fn every_restart() {
+    let [ones, twos, threes, fours] = alphabet_of_a_clock().programs();
+    let repeated: Vec<Part> = fours.iter().cloned().map(repeat).collect();
+    let mut programs = [ones, twos, threes, fours, repeated].concat();
+    programs.retain(has_start);
+    assert_eq!(programs.len(), 1 + 7 + 103 + 1599 + 1599);
+    check_accepted(
+        "every_restart",
+        &programs,
+        &[values(0)],
+        |rng, tally, (board, run)| every_pace(rng, tally, (&board, &run), 5),
+    );
 }
 
 /// What contends in a PAR: GOALs over three variables with values 0 and 1, and those over the first
@@ -267,13 +342,13 @@ fn estimates() -> impl Iterator<Item = [u8; 3]> {
 /// An offer, every settling, and the offer after it.
 fn settle_contest(rng: &mut Rng, tally: &mut Tally, (mut board, mut run): (Board, Run)) {
     let offer = Call::Offer { time: 0, room: 3 };
-    tally.note(&board.call(rng, &mut run, &offer));
+    tally.call(rng, (&mut board, &mut run), &offer);
     for estimate in estimates() {
         let mut board = board.clone();
         let mut run = run.clone();
-        tally.note(&board.call(rng, &mut run, &settle(&estimate)));
+        tally.call(rng, (&mut board, &mut run), &settle(&estimate));
         if run.phase != Phase::Finished {
-            tally.note(&board.call(rng, &mut run, &offer));
+            tally.call(rng, (&mut board, &mut run), &offer);
         }
     }
 }
@@ -287,17 +362,10 @@ fn every_contest() {
         programs.len(),
         10 + 10 * 10 + 10 * 10 * 10 + 10_usize.pow(4)
     );
-    let mut counts = Vec::new();
-    for (executive, share) in shares(&programs) {
-        let mut tally = Tally::default();
-        begin_all(
-            executive,
-            &share,
-            [[0, 0, 0], [0, 0, 1]],
-            |rng, board, run| settle_contest(rng, &mut tally, (board, run)),
-        );
-        assert_eq!(tally.calls(), tally.offers + tally.running + tally.finished);
-        counts.push(tally.counts());
-    }
-    assert_counts(file!(), "every_contest", &of_all_executives(&counts));
+    check_accepted(
+        "every_contest",
+        &programs,
+        &[[0, 0, 0], [0, 0, 1]],
+        settle_contest,
+    );
 }

@@ -9,7 +9,7 @@ use gurvoke::model;
 use gurvoke::record::{Phase, FINISHED, PHASE, RECORD_LEN};
 use gurvoke::refusals::{BUFFER_TOO_SHORT, NOTHING_AT_WORK};
 use gurvoke::rng::Rng;
-use gurvoke::runs::Call;
+use gurvoke::runs::{Call, StartCounts, Starts};
 use gurvoke::sizes::MAX_VARIABLES;
 use gurvoke::unfolding::{Offer, Program, Progress, Run};
 
@@ -269,10 +269,27 @@ pub struct Tally {
     contested: Contested,
     pub running: u64,
     pub finished: u64,
+    starts: StartCounts,
 }
 
 impl Tally {
-    pub fn note(&mut self, given: &Given) {
+    /// Makes a call, compares it, and notes what it came to.
+    pub fn call(
+        &mut self,
+        rng: &mut Rng,
+        (board, run): (&mut Board, &mut Run),
+        call: &Call,
+    ) -> Given {
+        let starts = Starts::of_settling(run);
+        let given = board.call(rng, run, call);
+        if matches!(given, Given::Settled(_)) {
+            self.starts.note(&starts);
+        }
+        self.note(&given);
+        given
+    }
+
+    fn note(&mut self, given: &Given) {
         match given {
             Given::Refused(number) => self.refusals[*number as usize] += 1,
             Given::Offered(offer) => {
@@ -303,6 +320,7 @@ impl Tally {
             ("settlings that tell running", self.running),
             ("settlings that tell finished", self.finished),
         ]);
+        counts.extend(self.starts.counts());
         for (refusal, count) in self.refusals.iter().enumerate() {
             counts.push((format!("refusals {refusal}"), *count));
         }

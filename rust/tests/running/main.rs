@@ -6,5 +6,6 @@ mod harness;
 mod mars_entry;
 mod random;
 mod records;
+mod restarts;
 mod stations;
 mod tables;

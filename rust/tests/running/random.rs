@@ -111,8 +111,7 @@ fn check_run(rng: &mut Rng, seen: &mut Seen, executive: &'static Executive, file
     let mut calls = rng.between(0, 50);
     while calls > 0 {
         let call = caller.next_call(rng, &run);
-        let given = board.call(rng, &mut run, &call);
-        seen.tally.note(&given);
+        let given = seen.tally.call(rng, (&mut board, &mut run), &call);
         if let Given::Offered(offer) = &given {
             caller.note_goals(&offer.goals);
             seen.note_offer(&run);
@@ -144,6 +143,12 @@ fn doubtful_programs() {
 #[test]
 fn contending_programs() {
     check_runs("contending_programs", 305, 20_000, runs::contending_program);
+}
+
+/// Programs made for clocks that are started again.
+#[test]
+fn restarting_programs() {
+    check_runs("restarting_programs", 306, 20_000, runs::restarting_program);
 }
 
 /// Small programs, in which a run comes to most places.

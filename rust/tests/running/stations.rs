@@ -92,12 +92,13 @@ fn station_7() {
     step_through(&STATION_7, &[0], |run| {
         run.offer(10, &[0xFF]);
         run.runs_on(&[0]);
+        assert_eq!(time_at(run.record(), start_place(0)), 10, "at 10");
         run.offer(20, &[0xFF]);
         run.finishes(&[0]);
         assert_eq!(run.record()[PHASE], FINISHED);
         assert_eq!(time_at(run.record(), TIME), 20, "last time");
         assert_eq!(run.record()[STARTED], 1, "clock 0 is started");
-        assert_eq!(time_at(run.record(), start_place(0)), 10, "at 10");
+        assert_eq!(time_at(run.record(), start_place(0)), 20, "again at 20");
     });
 }
 

@@ -1,17 +1,8 @@
--- `start_clock` meets its contract: a started clock keeps its bytes, and any other is started at the time.
+-- `start_clock` meets its contract: the clock's flag and its start are stored.
 use borrow.Author.Needs.{needs}
-use Rattle.run_clocks.proofs.Starting.{clock-started-before, clock-stored}
+use Rattle.run_clocks.proofs.Starting.{clock-stored}
 use Rattle.run_clocks.proofs.start_clock.Statement.{statement}
 use Rattle.run_clocks.proofs.start_clock.Tie as tie
-
-is-started-requires : tie.Need-is-started-requires
-is-started-requires c κs = search needs
-
-same-length : tie.Need-same-length
-same-length c = search needs
-
-returns : tie.Need-returns
-returns c = search clock-started-before
 
 wide-requires : tie.Need-wide-requires
 wide-requires c κs = search needs
@@ -34,19 +25,16 @@ add-put-time c = search needs
 put-time-requires : tie.Need-put-time-requires
 put-time-requires c κs = search needs
 
-same-length-2 : tie.Need-same-length-2
-same-length-2 c = search needs
+same-length : tie.Need-same-length
+same-length c = search needs
 
-returns-2 : tie.Need-returns-2
-returns-2 c = search clock-stored
+returns : tie.Need-returns
+returns c = search clock-stored
 
 pub start-clock-spec : {M : Type 1} → statement M
 start-clock-spec =
     tie.close
     (tie.spec
-    is-started-requires
-    same-length
-    returns
     wide-requires
     add-store
     store-requires
@@ -54,5 +42,5 @@ start-clock-spec =
     mul-put-time
     add-put-time
     put-time-requires
-    same-length-2
-    returns-2)
+    same-length
+    returns)

@@ -5,7 +5,7 @@ use mathlib.Core.Path.{_≡_, refl, _∙_}
 use lib.ListN.{length}
 use borrow.Author.Needs.{needs}
 use Rattle.meaning.specs.Program.{parts}
-use Rattle.meaning.proofs.Records.{allowed-long, still-long}
+use Rattle.meaning.proofs.Records.{still-long}
 use Rattle.run_clocks.specs.Starting.{partsStarted}
 use Rattle.run_clocks.proofs.Starting.{parts-step, parts-started-end}
 use Rattle.run_clocks.proofs.Pass.{clocks-made}
@@ -19,7 +19,7 @@ abbrev μ-loop : tie.MeasureT-loop
 μ-loop t r₀ time p₀ p-end r p = p-end - p
 
 last-time-requires : tie.Need-last-time-requires Inv-loop μ-loop
-last-time-requires c κs = search allowed-long
+last-time-requires c κs = search needs
 
 parts-requires : tie.Need-parts-requires Inv-loop μ-loop
 parts-requires c κs = search needs

@@ -1,7 +1,6 @@
 -- `commit` meets its contract: phase and estimate stand apart from the clocks, so that it does not matter which are stored first.
 use native.Mathlib.Omega.{arith}
 use borrow.Author.Needs.{needs}
-use Rattle.meaning.proofs.Records.{allowed-long}
 use Rattle.run_settle.proofs.Committing.{first-there, estimate-fit, marks-fit, record-committed}
 use Rattle.run_settle.proofs.commit.Statement.{statement}
 use Rattle.run_settle.proofs.commit.Tie as tie
@@ -27,7 +26,7 @@ copy-inside-requires c κs =
     let clocks = phase .before .before .before .before .before in
     let start = clocks .before .before .before .before .before .before in
     let given = start .pre in
-    estimate-fit _ _ _ _ _ (given .0) (given .1 .1 .1 .0) (c .before .variables .ensures) (c .wide .ensures) (omega (arith, allowed-long _ _ (given .1 .0), clocks .start-clocks .kept, phase .store .kept))
+    estimate-fit _ _ _ _ _ (given .0) (given .1 .1 .1 .0) (c .before .variables .ensures) (c .wide .ensures) (omega (arith, given .1 .0, clocks .start-clocks .kept, phase .store .kept))
 
 parts-requires : tie.Need-parts-requires
 parts-requires c κs = search needs
@@ -42,7 +41,7 @@ copy-inside-requires-2 c κs =
     let clocks = phase .before .before .before .before .before in
     let start = clocks .before .before .before .before .before .before in
     let given = start .pre in
-    marks-fit _ _ _ _ _ (given .0) (given .1 .1 .0) (c .before .parts .ensures) (c .index .ensures) (omega (arith, allowed-long _ _ (given .1 .0), clocks .start-clocks .kept, phase .store .kept, estimate .copy-inside .kept))
+    marks-fit _ _ _ _ _ (given .0) (given .1 .1 .0) (c .before .parts .ensures) (c .index .ensures) (omega (arith, given .1 .0, clocks .start-clocks .kept, phase .store .kept, estimate .copy-inside .kept))
 
 same-length : tie.Need-same-length
 same-length c = search needs

@@ -1,4 +1,4 @@
-//! The programs that are measured: three shapes, each in four sizes.
+//! The programs that are measured: four shapes, each in four sizes.
 
 use gurvoke::builder::{
     at_least, below, choice, differs, file, goal, maintain, par, repeat, seq, start, wait,
@@ -20,7 +20,7 @@ pub struct Shape {
     pub root: fn(usize) -> Part,
 }
 
-pub const SHAPES: [Shape; 3] = [
+pub const SHAPES: [Shape; 4] = [
     Shape {
         name: "one wide PAR of GOALs",
         root: wide,
@@ -32,6 +32,10 @@ pub const SHAPES: [Shape; 3] = [
     Shape {
         name: "a PAR of REPEAT(SEQ(START, WAIT, GOAL, CHOICE, MAINTAIN))",
         root: mixed,
+    },
+    Shape {
+        name: "one wide PAR of STARTs",
+        root: starts,
     },
 ];
 
@@ -86,6 +90,14 @@ fn branch(place: usize) -> Part {
         choice(below(clock, 100), goal(variable, 2), goal(variable, 3)),
         maintain(below(clock, 1000), goal(variable, 4)),
     ]))
+}
+
+/// One GOAL, as every program has, and STARTs of all clocks in turn.
+fn starts(parts: usize) -> Part {
+    let mut children = vec![spread_goal(UNMOVED)];
+    let places = 0..parts - 1 - children.len();
+    children.extend(places.map(|place| start((place % MAX_CLOCKS) as u8)));
+    par(children)
 }
 
 /// GOALs over all variables in turn, the unmoved one first.
