@@ -164,9 +164,10 @@ contestedStations =
     ∷ []
 
 -- "Stations that repeat a dip start the dip clock in every round, and only the first start counts. … From now on every marked START sets its clock to the
--- cycle's time" (document 02, R-2). REPEAT(SEQ(START 0, WAIT clock 0 at least 10, GOAL 0=1)) waits in the second round for as long as in the first. PAR(SEQ(START 0, START 0), WAIT) and PAR(WAIT, SEQ(START 0, START 0)): the WAIT beside the second
--- START reads the first start, for clock 0 at least 5 (due at 15, not at 14) and below 3. SEQ(START 0, MAINTAIN(0≠2, START 0)), violated: the START
--- inside starts nothing. SEQ(START 0, START 0) at one time, and PAR(START 0, START 0)
+-- cycle's time" (document 02, R-2). REPEAT(SEQ(START 0, WAIT clock 0 at least 10, GOAL 0=1)) waits in the second round for as long as in the first.
+-- PAR(SEQ(START 0, START 0), WAIT) and PAR(WAIT, SEQ(START 0, START 0)): the WAIT beside the second START reads the first start, for clock 0 at least 5
+-- (due at 15, not at 14) and below 3. SEQ(START 0, MAINTAIN(0≠2, START 0)), violated: the START inside starts nothing. SEQ(START 0, START 0) at one time,
+-- and PAR(START 0, START 0)
 abbrev pub dips : List ℕ
 dips = program 5 (8 ∷ 4 ∷ 2 ∷ 3 ∷ 1 ∷ []) (0 ∷ 0 ∷ 0 ∷ 0 ∷ 3 ∷ 0 ∷ 0 ∷ 0 ∷ 0 ∷ 0 ∷ 0 ∷ 0 ∷ 3 ∷ 0 ∷ 10 ∷ 0 ∷ 0 ∷ 0 ∷ 1 ∷ 0 ∷ [])
 
