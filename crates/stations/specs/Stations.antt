@@ -168,8 +168,8 @@ contestedStations =
 -- PAR(SEQ(START 0, START 0), WAIT) and PAR(WAIT, SEQ(START 0, START 0)): the WAIT beside the second START reads the first start, for clock 0 at least 5
 -- (due at 15, not at 14) and below 3. SEQ(START 0, MAINTAIN(0≠2, START 0)), violated: the START inside starts nothing. SEQ(START 0, START 0) at one time,
 -- and PAR(START 0, START 0)
-abbrev pub dips : List ℕ
-dips = program 5 (8 ∷ 4 ∷ 2 ∷ 3 ∷ 1 ∷ []) (0 ∷ 0 ∷ 0 ∷ 0 ∷ 3 ∷ 0 ∷ 0 ∷ 0 ∷ 0 ∷ 0 ∷ 0 ∷ 0 ∷ 3 ∷ 0 ∷ 10 ∷ 0 ∷ 0 ∷ 0 ∷ 1 ∷ 0 ∷ [])
+abbrev pub timedRounds : List ℕ
+timedRounds = program 5 (8 ∷ 4 ∷ 2 ∷ 3 ∷ 1 ∷ []) (0 ∷ 0 ∷ 0 ∷ 0 ∷ 3 ∷ 0 ∷ 0 ∷ 0 ∷ 0 ∷ 0 ∷ 0 ∷ 0 ∷ 3 ∷ 0 ∷ 10 ∷ 0 ∷ 0 ∷ 0 ∷ 1 ∷ 0 ∷ [])
 
 -- a WAIT on clock 0, by its test and value, after and before the two STARTs
 abbrev pub startsThenWait : ℕ → ℕ → List ℕ
@@ -196,7 +196,7 @@ goallessStation f times n start = startingStation f (goallessCalls times) (goall
 
 unfoldable pub restartedStations : List Station
 restartedStations =
-    startingStation dips
+    startingStation timedRounds
     (at 10 ∷ with-estimate 0 ∷ at 20 ∷ with-estimate 0 ∷ at 20 ∷ with-estimate 1 ∷ at 21 ∷ with-estimate 0 ∷ at 30 ∷ with-estimate 0 ∷ at 31 ∷ with-estimate 0 ∷ at 31 ∷ [])
     (goal-is 255 ∷ running ∷ goal-is 255 ∷ running ∷ goal-is 1 ∷ running ∷ goal-is 255 ∷ running ∷ goal-is 255 ∷ running ∷ goal-is 255 ∷ running ∷ goal-is 1 ∷ [])
     none

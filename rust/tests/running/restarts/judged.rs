@@ -104,13 +104,12 @@ fn a_wait_on_a_clock_that_each_cycle_starts() {
     });
 }
 
-/// A dip in each round: the WAIT is as long in every one.
+/// A START and a WAIT on its clock in each round: the WAIT is as long in every one.
 #[test]
-fn a_dip_is_as_long_in_every_round() {
-    let dip = seq(vec![start(0), wait(at_least(0, 30)), goal(0, 1)]);
-    step(1, &repeat(dip), |run| {
-        for round in 0..4 {
-            let begun = 100 + 50 * round;
+fn a_wait_is_as_long_in_every_round() {
+    let round = seq(vec![start(0), wait(at_least(0, 30)), goal(0, 1)]);
+    step(1, &repeat(round), |run| {
+        for begun in [100, 150, 200, 250] {
             cycle(run, begun);
             assert_start(run, begun);
             assert_marks(run, [1, 1, 0, 1, 0]);
