@@ -8,7 +8,6 @@ use meaning::Answer;
 use meaning::Form;
 use meaning::Refusal;
 use meaning::sizes::HEADER;
-use meaning::sizes::MAX_DEPTH;
 use program_part::layout::length_of;
 use program_part::layout::parts;
 use program_part::layout::sizes_allowed;
@@ -46,7 +45,7 @@ fn parts_refusal(s: &[u8]) -> Answer
     requires { ⌜ 1 ≤ parts (now s) ⌝ }
     ensures { λ r. ⌜ answerNumber r ≡ firstFailing (partTests File (now (s .entry))) ⌝ }
 {
-    if root_extent(s, MAX_DEPTH) == parts(s) {
+    if root_extent(s) == parts(s) {
         return Answer::Done;
     }
     failed_walk_refusal(s)

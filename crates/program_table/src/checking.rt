@@ -4,6 +4,7 @@
 use meaning::Form;
 use meaning::Number;
 use meaning::sizes::END_PLACE;
+use meaning::sizes::MAX_DEPTH;
 use meaning::sizes::NEXT_PLACE;
 use meaning::sizes::NO_PART;
 use meaning::sizes::PARENT_PLACE;
@@ -19,26 +20,26 @@ use program_part::layout::row_place;
 use program_rows::rows::next_of;
 use program_walk::walker::entry_at;
 ghost use mathlib.Core.Path.{_≡_};
-ghost use Prim.Native.Nat.{_+_, _<_, _≤_};
+ghost use Prim.Native.Nat.{_+_, _-_, _<_, _≤_};
 ghost use lib.ListN.{length};
 ghost use Rattle.meaning.specs.declared.Form.the-variants.{Table};
-ghost use Rattle.meaning.specs.Sizes.{rowLength, lengthOf};
+ghost use Rattle.meaning.specs.Sizes.{maxDepth, rowLength, lengthOf};
 ghost use Rattle.meaning.specs.Program.{parts};
 ghost use Rattle.meaning.specs.Table.{compiled, parentAt};
 ghost use Rattle.program_part.specs.Readable.{Readable};
 ghost use Rattle.program_walk.specs.Walk.{partsEnd};
 ghost use Rattle.program_table.specs.Checking.{endStored, Ending, ParentsAgree, linksIn, rowByte, rowIs, rowsAre};
 
-// The end of `count` parts in a row, of which part p is the first. It is 0 if there are too few parts, if a
-// part is not allowed or more than `levels` levels deep, or if its row has another end. Fewer parts remain
-// at each call, and the calls are at most `levels` deep.
-pub(crate) fn parts_end(t: &[u8], p: Number, count: Number, levels: u8) -> Number
+// The end of `count` parts in a row, of which part p is the first, and which are the children of a part at
+// depth `outer`. It is 0 if there are too few parts, if a part is not allowed or too deep, or if its row has
+// another end. Fewer parts remain at each call, and the calls are at most as deep as a part may be.
+pub(crate) fn parts_end(t: &[u8], p: Number, count: Number, outer: u8) -> Number
     requires { ⌜ lengthOf Table (parts (now t)) ≤ length (now t) ⌝ }
-    requires { ⌜ 0 < levels ⌝ }
-    ensures { λ r. ⌜ r ≡ partsEnd Table (now (t .entry)) (endStored (now (t .entry))) levels count p ⌝ }
+    requires { ⌜ outer < maxDepth ⌝ }
+    ensures { λ r. ⌜ r ≡ partsEnd Table (now (t .entry)) (endStored (now (t .entry))) (maxDepth - outer) count p ⌝ }
 {
     let sizes = read_sizes(t);
-    let below = levels - 1;
+    let depth = outer + 1;
     let mut remaining = count;
     let mut q = p;
     while remaining > 0 {
@@ -51,10 +52,10 @@ pub(crate) fn parts_end(t: &[u8], p: Number, count: Number, levels: u8) -> Numbe
         };
         let mut e = q + 1;
         if inside > 0 {
-            if below == 0 {
+            if depth == MAX_DEPTH {
                 return 0;
             }
-            e = parts_end(t, q + 1, inside, below);
+            e = parts_end(t, q + 1, inside, depth);
             if e == 0 {
                 return 0;
             }

@@ -5,7 +5,6 @@ use crate::checking::parts_end;
 use crate::checking::rows_match;
 use meaning::Form;
 use meaning::sizes::HEADER;
-use meaning::sizes::MAX_DEPTH;
 use program_part::layout::length_of;
 use program_part::layout::parts;
 use program_part::layout::sizes_allowed;
@@ -25,7 +24,7 @@ pub fn is_table(table: &[u8]) -> bool
     if table.len() != length_of(Form::Table, parts(table)) {
         return false;
     }
-    if parts_end(table, 0, 1, MAX_DEPTH) != parts(table) {
+    if parts_end(table, 0, 1, 0) != parts(table) {
         return false;
     }
     rows_match(table)

@@ -4,3 +4,9 @@ pub mod Numbers
 pub mod Machine
 pub mod Ending
 pub mod Walking
+pub mod TreeSteps
+pub mod FileSteps
+pub mod Enclosing
+pub mod KeptDepth
+pub mod Turns
+pub mod Computed

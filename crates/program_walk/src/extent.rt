@@ -7,22 +7,23 @@ ghost use mathlib.Core.Path.{_≡_};
 ghost use Prim.Native.Nat.{_≤_};
 ghost use lib.ListN.{length};
 ghost use Rattle.meaning.specs.declared.Form.the-variants.{File};
-ghost use Rattle.meaning.specs.Sizes.{lengthOf};
+ghost use Rattle.meaning.specs.Sizes.{maxDepth, lengthOf};
 ghost use Rattle.meaning.specs.Program.{parts};
 ghost use Rattle.program_walk.specs.Walk.{anyEnd, partsEnd};
+ghost use Rattle.program_walk.specs.Steps.{AtRoot};
 
-// Where the part at the walker ends, 0 where no part that is allowed stands there within `levels` levels.
-pub(crate) fn extent<'a>(w: Walker<'a>, levels: u8) -> Number
-    requires { ⌜ lengthOf File (parts (now (w .file))) ≤ length (now (w .file)) ⌝ }
-    ensures { λ r. ⌜ r ≡ partsEnd File (now (w .entry .file)) anyEnd levels 1 (w .entry .next) ⌝ }
+// Where the root ends, at which the walker stands: 0 where no part is that is allowed and not too deep.
+pub(crate) fn extent<'a>(w: Walker<'a>) -> Number
+    requires { ⌜ AtRoot (now (w .file)) (w .next) ⌝ }
+    ensures { λ r. ⌜ r ≡ partsEnd File (now (w .entry .file)) anyEnd maxDepth 1 (w .entry .next) ⌝ }
 {
-    part_end(w.file, w.next, levels)
+    part_end(w.file, w.next)
 }
 
 // The same of the root of s, by way of a walker.
-pub fn root_extent(s: &[u8], levels: u8) -> Number
+pub fn root_extent(s: &[u8]) -> Number
     requires { ⌜ lengthOf File (parts (now s)) ≤ length (now s) ⌝ }
-    ensures { λ r. ⌜ r ≡ partsEnd File (now (s .entry)) anyEnd levels 1 0 ⌝ }
+    ensures { λ r. ⌜ r ≡ partsEnd File (now (s .entry)) anyEnd maxDepth 1 0 ⌝ }
 {
-    extent(root(s), levels)
+    extent(root(s))
 }

@@ -1,10 +1,11 @@
 -- `parts_end` meets its contract, as that of `walk` does, with each end compared. The measure is the parts that are left; the loop's invariant: the parts that are left end where all of them do.
-use Prim.Native.Nat.{ℕ, _-_, _<_}
+use Prim.Native.Nat.{ℕ, _+_, _-_, _<_}
 use native.Mathlib.Omega.{arith}
 use mathlib.Core.Path.{refl, sym, ap, _∙_}
 use mathlib.Core.Logic.{inl, inr, ⊎-elim}
 use borrow.Author.Needs.{needs}
 use Rattle.meaning.specs.declared.Form.the-variants.{Table}
+use Rattle.meaning.specs.Sizes.{maxDepth}
 use Rattle.meaning.specs.Program.{parts}
 use Rattle.program_part.specs.declared.layout.Sizes.{Sizes}
 use Rattle.program_walk.specs.Walk.{partsEnd}
@@ -37,19 +38,19 @@ abbrev callees : ℕ → parts-end-lts.Claims
 callees t = (read-sizes-reads.Asked, read-sizes-reads.Learnt, entry-at-reads.Asked, entry-at-reads.Learnt, children-of-reads.Asked, children-of-reads.Learnt, parts-end-below t, parts-end.Post, end-at-reads.Asked, end-at-reads.Learnt)
 
 abbrev parts-end-Inv-loop : parts-end-lts.InvT-loop
-parts-end-Inv-loop s p count levels sizes below remaining₀ q₀ remaining q = Walking Table s (endStored s) levels p q remaining (partsEnd Table s (endStored s) levels count p)
+parts-end-Inv-loop s p count outer sizes depth remaining₀ q₀ remaining q = Walking Table s (endStored s) (maxDepth - (outer + 1)) p q remaining (partsEnd Table s (endStored s) (maxDepth - outer) count p)
 
 abbrev parts-end-μ-loop : parts-end-lts.MeasureT-loop
-parts-end-μ-loop s p count levels sizes below remaining₀ q₀ remaining q = remaining
+parts-end-μ-loop s p count outer sizes depth remaining₀ q₀ remaining q = remaining
 
 parts-end-read-sizes-requires : (t : ℕ) → parts-end-lts.Need-read-sizes-requires (callees t) (parts-end-at t) parts-end.Post parts-end-Inv-loop parts-end-μ-loop
 parts-end-read-sizes-requires t c κs = search needs
 
-parts-end-sub-below : (t : ℕ) → parts-end-lts.Need-sub-below (callees t) (parts-end-at t) parts-end.Post parts-end-Inv-loop parts-end-μ-loop
-parts-end-sub-below t c = omega (arith, c .before .before .pre .1 .1)
+parts-end-add-depth : (t : ℕ) → parts-end-lts.Need-add-depth (callees t) (parts-end-at t) parts-end.Post parts-end-Inv-loop parts-end-μ-loop
+parts-end-add-depth t c = omega (arith, c .before .before .pre .1 .1)
 
 parts-end-loop-holds : (t : ℕ) → parts-end-lts.Need-loop-holds (callees t) (parts-end-at t) parts-end.Post parts-end-Inv-loop parts-end-μ-loop
-parts-end-loop-holds t c = walk-starts Table _ (endStored _) _ _ _ (c .before .before .pre .1 .1)
+parts-end-loop-holds t c = walk-starts Table _ (endStored _) _ _ _ _ (omega (arith, c .before .before .pre .1 .1))
 
 parts-end-returns : (t : ℕ) → parts-end-lts.Need-returns (callees t) (parts-end-at t) parts-end.Post parts-end-Inv-loop parts-end-μ-loop
 parts-end-returns t c = walk-beyond Table _ (endStored _) _ _ _ _ _ (c .before .before .before .loop .inv) (c .before .before .loop-test .taken) _ (c .before .before .before .before .read-sizes .ensures) (c .if1 .taken)
@@ -87,7 +88,7 @@ parts-end-parts-end-requires : (t : ℕ) → parts-end-lts.Need-parts-end-requir
 parts-end-parts-end-requires t c κs =
     let turn = c .before .before .before .before .before .before .before .before .before in
     let pre = turn .before .before .before .before .pre in
-    (omega (arith, pre .0, c .before .before .before .before .before .before .before .if1 .left, turn .before .loop .inv .from, ap (λ (x : Sizes). x .parts) (turn .before .before .read-sizes .ensures)), (pre .1 .0, omega arith))
+    (omega (arith, pre .0, c .before .before .before .before .before .before .before .if1 .left, turn .before .loop .inv .from, ap (λ (x : Sizes). x .parts) (turn .before .before .read-sizes .ensures)), (pre .1 .0, omega (arith, pre .1 .1)))
 
 parts-end-returns-4 : (t : ℕ) → parts-end-lts.Need-returns-4 (callees t) (parts-end-at t) parts-end.Post parts-end-Inv-loop parts-end-μ-loop
 parts-end-returns-4 t c =
@@ -130,7 +131,7 @@ pub +parts-end-spec : {M : Type 1} → statement M
     parts-end-Inv-loop
     parts-end-μ-loop
     (parts-end-read-sizes-requires t)
-    (parts-end-sub-below t)
+    (parts-end-add-depth t)
     (parts-end-loop-holds t)
     (parts-end-returns t)
     (parts-end-entry-at-requires t)
