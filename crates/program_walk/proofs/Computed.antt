@@ -2,9 +2,9 @@
 use Prim.Native.Nat.{ℕ}
 use mathlib.Core.Path.{_≡_, refl}
 use mathlib.Core.Option.{Option, some, Option·map}
-use mathlib.Core.List.{List, [], _∷_, _++_}
+use mathlib.Core.List.{List, [], _∷_, _++_, map}
 use lib.ListN.{length, replicate}
-use Rattle.base.specs.Lists.{tabulate}
+use Rattle.base.specs.Lists.{tabulate, flag}
 use Rattle.meaning.specs.declared.Form.the-variants.{File}
 use Rattle.meaning.specs.Program.{treeOf}
 use Rattle.meaning.specs.Table.{compiled}
@@ -49,6 +49,10 @@ pub file-walked : Holds
     ∷ [])
 unfolding steps
 file-walked = refl
+
+-- which of these steps go down
+pub ways-walked : map (λ m. flag (m .goesDown)) everyStep ≡ 1 ∷ 1 ∷ 1 ∷ 0 ∷ 0 ∷ 1 ∷ 1 ∷ 1 ∷ 0 ∷ 0 ∷ 1 ∷ 0 ∷ 0 ∷ 1 ∷ 1 ∷ 0 ∷ 0 ∷ 0 ∷ []
+ways-walked = refl
 
 -- at the greatest depth the walk turns round; where a child would stand deeper, it has gone down 16 times
 pub depth-limited : Holds (length (steps (repeats 15)) gets 32 ∷ length (steps (repeats 16)) gets 16 ∷ [])
