@@ -1,4 +1,4 @@
--- What is asked of the walk that reads a file (document 02, R-3), said of the steps that its functions are held to: `enter`, `leave` and `parts_end` take the steps of `walkSteps`, each at its turn.
+-- What is asked of the walk that reads a file (document 02, R-3), said of what the contracts of `look`, `take` and `parts_end` ask for: `Next`, each step of `walkSteps` at its turn.
 use Prim.Native.Nat.{ℕ, zero, suc, _+_, _-_, _*_, _≤_, _<_}
 use native.Mathlib.Omega.{arith}
 use mathlib.Core.Path.{_≡_, refl, sym, ap, _∙_}

@@ -10,7 +10,7 @@ use lib.Seq.{getD-append-add}
 use Rattle.base.specs.Lists.{sum, concat, flat}
 use Rattle.base.proofs.Lists.{length-flat}
 use Rattle.meaning.specs.Tree.{Part, kind, children, operand, size}
-use Rattle.meaning.proofs.Trees.{All, part-ind, fold-law, map-all, size-law}
+use Rattle.meaning.proofs.Trees.{All, part-ind, fold-law, map-all, all-of, size-law}
 use Rattle.meaning.proofs.Nesting.{lower}
 use Rattle.program_walk.specs.Steps.{Step, down, up, Tour, tourParts, eachSteps, tourOf, tour, around}
 
@@ -20,7 +20,7 @@ Each P [] = Unit {0}
 Each P (x ∷ xs) = P x × Each P xs
 
 module _ {A : Type 0} where
-  pub each-both : (P : A → Type 0) (xs ys : List A) → Each P xs → Each P ys → Each P (xs ++ ys)
+  each-both : (P : A → Type 0) (xs ys : List A) → Each P xs → Each P ys → Each P (xs ++ ys)
   each-both P [] ys h k = k
   each-both P (x ∷ xs) ys h k = (h .0, each-both P xs ys (h .1) k)
 
@@ -74,15 +74,11 @@ around-law t = fold-law (λ k o ns. 0 ∷ map suc (concat ns)) t
 around-each : (cs : List Part) → All (λ t. length (around t) ≡ size t) cs → length (flat around cs) ≡ sum (map size cs)
 around-each cs h = length-flat around cs ∙ ap sum (map-all (λ t. length (around t)) size cs h)
 
-pub around-length : (t : Part) → length (around t) ≡ size t
+around-length : (t : Part) → length (around t) ≡ size t
 around-length = part-ind (λ t. length (around t) ≡ size t) (λ t h. rw (around-law t) (omega (arith, length-map (flat around (children t)) suc, around-each (children t) h, size-law t)))
 
-pub around-lengths : (cs : List Part) → length (flat around cs) ≡ sum (map size cs)
-around-lengths cs = around-each cs (go cs)
-  where
-    go : (ps : List Part) → All (λ t. length (around t) ≡ size t) ps
-    go [] = tt
-    go (p ∷ ps) = (around-length p, go ps)
+around-lengths : (cs : List Part) → length (flat around cs) ≡ sum (map size cs)
+around-lengths cs = around-each cs (all-of (λ t. length (around t) ≡ size t) around-length cs)
 
 getD-suc : (xs : List ℕ) (i : ℕ) → i < length xs → getD (map suc xs) i 0 ≡ suc (getD xs i 0)
 getD-suc [] i h = absurd (omega arith)

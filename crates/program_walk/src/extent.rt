@@ -1,4 +1,4 @@
-// The walk over a file, entered through the walker: where the part ends at which a walker stands.
+// The walk over a file, entered through the walker: where the root ends, at which the walker stands.
 use crate::walk::part_end;
 use crate::walker::Walker;
 use crate::walker::root;
@@ -12,7 +12,7 @@ ghost use Rattle.meaning.specs.Program.{parts};
 ghost use Rattle.program_walk.specs.Walk.{anyEnd, partsEnd};
 ghost use Rattle.program_walk.specs.Steps.{AtRoot};
 
-// Where the root ends, at which the walker stands: 0 where no part is that is allowed and not too deep.
+// Where the walker's root ends, 0 where the walk stops.
 pub(crate) fn extent<'a>(w: Walker<'a>) -> Number
     requires { ⌜ AtRoot (now (w .file)) (w .next) ⌝ }
     ensures { λ r. ⌜ r ≡ partsEnd File (now (w .entry .file)) anyEnd maxDepth 1 (w .entry .next) ⌝ }
