@@ -61,7 +61,7 @@ static uint8_t goals[VARIABLES];
 static uint8_t estimate[VARIABLES];
 static bool panel[VARIABLES]; /* the lights that are on */
 
-/* The drivers. */
+/* The drivers. Where a sensor has nothing to say, its byte is GURVOKE_UNKNOWN_VALUE. */
 static uint32_t read_clock(void);
 static void read_sensors(uint8_t *values);
 static void command(int variable, uint8_t value);
@@ -266,7 +266,7 @@ int main(void)
 }
 
 /* The rest is made up: what happens to the board, cycle by cycle. */
-enum fault { NO_FAULT, NO_ECHO, TABLE_HIT, RECORD_HIT };
+enum fault { NO_FAULT, NO_ECHO, BAD_ECHO, TABLE_HIT, RECORD_HIT };
 
 static const struct moment {
     uint32_t clock;
@@ -288,13 +288,15 @@ static const struct moment {
     /* No GOAL is marked. The START ends and starts clock 0 at 15; MAINTAIN 7, SEQ 8 and WAIT 9 are
      * initialised. */
     {15, 0, NO_FAULT},
-    /* The frame is level, so the MAINTAIN is not violated. The clock reads 5: the WAIT waits. */
-    {20, 0, NO_FAULT},
+    /* The frame is level, so the MAINTAIN is not violated. The clock reads 5: the WAIT waits. The
+     * frame's sensor has no echo, so this settling stores that the frame is unknown. */
+    {20, 0, NO_ECHO},
     /* 4 is before the last time, 20: refused with 12. The record is as it was. */
     {4, 0, NO_FAULT},
-    /* The clock reads 10. The frame's sensor has no echo at first and reads 251: that settling is
-     * refused with 13, and the second reading, level, settles the cycle. */
-    {25, 0, NO_ECHO},
+    /* By the stored estimate "frame = 0" is open, not violated, so the MAINTAIN goes on. The clock
+     * reads 10: the WAIT waits. The frame's sensor has a bad echo at first and reads 251: that
+     * settling is refused with 13, and the second reading, level, settles the cycle. */
+    {25, 0, BAD_ECHO},
     /* The clock reads 15. The frame tilts: this settling stores it, but looks at no MAINTAIN. */
     {30, 1, NO_FAULT},
     /* The clock comes due, it reads 20. But the offer comes first: by the stored estimate "frame =
@@ -327,7 +329,7 @@ static const struct moment {
 /* Where the board is in the script, and where its actuators are. */
 static size_t moment;
 static uint8_t at[VARIABLES];
-static bool echo_failed;
+static bool had_bad_echo;
 
 static uint32_t read_clock(void)
 {
@@ -338,8 +340,10 @@ static void read_sensors(uint8_t *values)
 {
     memcpy(values, at, sizeof at);
     values[FRAME] = script[moment].frame;
-    if (script[moment].fault == NO_ECHO && !echo_failed) {
-        echo_failed = true;
+    if (script[moment].fault == NO_ECHO)
+        values[FRAME] = GURVOKE_UNKNOWN_VALUE;
+    if (script[moment].fault == BAD_ECHO && !had_bad_echo) {
+        had_bad_echo = true;
         values[FRAME] = GURVOKE_MAX_VALUE + 1;
     }
 }

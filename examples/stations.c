@@ -1,7 +1,7 @@
 /*
  * The ten stations of document 01, its refusals, the misreadings that it names and some further
- * programs, those of document 02's requests R-1 and R-2 among them, as calls with what each must
- * answer and every byte that it must leave. It runs on any library with this header, and needs
+ * programs, those of document 02's requests R-1, R-2 and R-4 among them, as calls with what each
+ * must answer and every byte that it must leave. It runs on any library with this header, and needs
  * nothing else:
  *
  *   gcc -Iinclude examples/stations.c LIBRARY -o stations && ./stations
@@ -135,6 +135,7 @@ static const struct step steps[] = {
     SETTLED_WITH("02"),
     SETTLED_WITH("03"),
     SETTLED_WITH("FA"),
+    SETTLED_WITH("FF"),
 
     STATION("station 3"), /* MAINTAIN(clock 0 below 5, GOAL 0=1) */
     COMPILED("02 01 01  06 01  04 00 05 00  00 00 01 00",
@@ -375,13 +376,16 @@ static const struct step steps[] = {
     SETTLE_REFUSED("FB", 13),
     FINISHED("FA", "0"),
     FILE_REFUSED("01 01 00  01  00 00 FB 00", GURVOKE_MAX_TABLE, 5),
+    FILE_REFUSED("01 01 00  01  00 00 FF 00", GURVOKE_MAX_TABLE, 5), /* nobody asks for unknown */
     FILE_REFUSED("01 01 00  01  00 00 00 01", GURVOKE_MAX_TABLE, 5),
     /* WAIT 0=250, WAIT 0 differs from 250: the same bounds */
     COMPILED("01 01 00  03  01 00 FA 00", "01 01 00  03 01 FF FF 01 00 FA 00"),
     FILE_REFUSED("01 01 00  03  01 00 FB 00", GURVOKE_MAX_TABLE, 5),
+    FILE_REFUSED("01 01 00  03  01 00 FF 00", GURVOKE_MAX_TABLE, 5),
     FILE_REFUSED("01 01 00  03  01 00 01 01", GURVOKE_MAX_TABLE, 5),
     COMPILED("01 01 00  03  02 00 FA 00", "01 01 00  03 01 FF FF 02 00 FA 00"),
     FILE_REFUSED("01 01 00  03  02 00 FB 00", GURVOKE_MAX_TABLE, 5),
+    FILE_REFUSED("01 01 00  03  02 00 FF 00", GURVOKE_MAX_TABLE, 5),
     FILE_REFUSED("01 01 00  03  02 00 01 01", GURVOKE_MAX_TABLE, 5),
 
     STATION("contested variables"),
@@ -510,6 +514,12 @@ static const struct step steps[] = {
     OFFERED(8, "FF", "10"),
     FINISHED("00", "00"),
     FINISHED_IN(1),
+    /* and where 0 is unknown it does not break */
+    BEGUN("FF", "11"),
+    OFFERED(8, "FF", "11"),
+    STARTS(0, 8),
+    FINISHED("FF", "00"),
+    FINISHED_IN(1),
     /* SEQ(START 0, PAR(MAINTAIN(0=0, START 0), START 1)), two clocks: clock 0 keeps its start, and
      * the START outside starts clock 1 */
     COMPILED("06 01 02  04 02 05 06 02 02"
@@ -577,6 +587,23 @@ static const struct step steps[] = {
     OFFERED(110, "01 FF", "1000001"),
     FINISHED("01 00", "0000000"),
     FINISHED_IN(4),
+    /* and with 1 unknown as the clock comes due: the MAINTAIN goes on, the WAIT ends, and the GOAL
+     * after it is marked until 1 is known to be 1 */
+    BEGUN("00 00", "1111000"),
+    OFFERED(100, "FF FF", "1111000"),
+    STARTS(0, 100),
+    RUNNING("00 00", "1110100"),
+    OFFERED(109, "FF FF", "1110100"),
+    RUNNING("00 FF", "1110100"),
+    OFFERED(110, "FF FF", "1110100"),
+    RUNNING("00 FF", "1110010"),
+    OFFERED(110, "02 FF", "1110010"),
+    RUNNING("00 01", "1110010"),
+    OFFERED(110, "FF FF", "1100000"),
+    RUNNING("00 FF", "1000001"),
+    OFFERED(110, "01 FF", "1000001"),
+    FINISHED("01 FF", "0000000"),
+    FINISHED_IN(6),
 
     STATION("a REPEAT beside a WAIT"),
     /* PAR(WAIT clock 0 at least 20, REPEAT(SEQ(START 0, CHOICE(clock 0 at least 10; GOAL 0=1;
@@ -724,6 +751,162 @@ static const struct step steps[] = {
     FINISHED("00", "000000"),
     FINISHED_IN(3),
 
+    STATION("a GOAL on an unknown variable"), /* GOAL 0=1: it is not reached, and offered again */
+    COMPILED(GOAL_1, GOAL_1_TABLE),
+    BEGUN("FF", "1"),
+    OFFERED(0, "01", "1"),
+    RUNNING("FF", "1"),
+    OFFERED(0, "01", "1"),
+    RUNNING("00", "1"),
+    OFFERED(0, "01", "1"),
+    FINISHED("01", "0"),
+    FINISHED_IN(3),
+    /* PAR(GOAL 0=1, GOAL 0=2, GOAL 1=1): 0 is contested, known or not, and 1 is no matter of 0 */
+    COMPILED("04 02 00  05 01 01 01  03 00 00 00  00 00 01 00  00 00 02 00  00 01 01 00",
+             "04 02 00"
+             "05 04 FF FF 03 00 00 00"
+             "01 02 00 FF 00 00 01 00"
+             "01 03 00 FF 00 00 02 00"
+             "01 04 00 FF 00 01 01 00"),
+    BEGUN("FF FF", "1111"),
+    NAMED(0, 0, "FE 01", "1111"),
+    RUNNING("FF 01", "1110"),
+    NAMED(0, 0, "FE FF", "1110"),
+    RUNNING("02 FF", "1100"),
+    OFFERED(0, "01 FF", "1100"),
+    RUNNING("FF FF", "1100"),
+    OFFERED(0, "01 FF", "1100"),
+    FINISHED("01 FF", "0000"),
+    OFFER_REFUSED(0, 0, 14), /* the record is allowed, with 1 unknown */
+    SETTLE_REFUSED("FF FF", 14),
+    FINISHED_IN(4),
+
+    STATION("a WAIT on an unknown variable"),
+    /* PAR(WAIT 0=1, WAIT 0 differs from 1): both stay, and a value ends one of them */
+    COMPILED("03 01 00  05 03 03  02 00 00 00  01 00 01 00  02 00 01 00",
+             "03 01 00"
+             "05 03 FF FF 02 00 00 00"
+             "03 02 00 FF 01 00 01 00"
+             "03 03 00 FF 02 00 01 00"),
+    BEGUN("00", "111"),
+    OFFERED(0, "FF", "111"),
+    RUNNING("FF", "111"),
+    OFFERED(0, "FF", "111"),
+    RUNNING("FF", "111"),
+    OFFERED(0, "FF", "111"),
+    RUNNING("00", "110"),
+    OFFERED(0, "FF", "110"),
+    RUNNING("FF", "110"),
+    OFFERED(0, "FF", "110"),
+    FINISHED("01", "000"),
+    FINISHED_IN(5),
+    BEGUN("FF", "111"),
+    OFFERED(0, "FF", "111"),
+    RUNNING("01", "101"),
+    OFFERED(0, "FF", "101"),
+    RUNNING("FF", "101"),
+    OFFERED(0, "FF", "101"),
+    FINISHED("FA", "000"),
+    FINISHED_IN(3),
+
+    STATION("a MAINTAIN over an unknown variable"),
+    /* MAINTAIN(0=0, GOAL 1=1): it goes on, from the first offer or later, until 0 is known to be
+     * another; then it ends, be 0 unknown again */
+    COMPILED("02 02 00  06 01  01 00 00 00  00 01 01 00",
+             "02 02 00  06 02 FF FF 01 00 00 00  01 02 00 FF 00 01 01 00"),
+    BEGUN("FF 00", "11"),
+    OFFERED(0, "FF 01", "11"),
+    RUNNING("FF 00", "11"),
+    OFFERED(0, "FF 01", "11"),
+    RUNNING("00 00", "11"),
+    OFFERED(0, "FF 01", "11"),
+    RUNNING("FF 00", "11"),
+    OFFERED(0, "FF 01", "11"),
+    RUNNING("01 00", "11"),
+    OFFERED(0, "FF FF", "10"),
+    FINISHED("FF 00", "00"),
+    FINISHED_IN(5),
+    /* and ends with what it holds */
+    BEGUN("FF FF", "11"),
+    OFFERED(0, "FF 01", "11"),
+    RUNNING("FF FF", "11"),
+    OFFERED(0, "FF 01", "11"),
+    FINISHED("FF 01", "00"),
+    FINISHED_IN(2),
+    /* MAINTAIN(0 differs from 0, GOAL 1=1) */
+    COMPILED("02 02 00  06 01  02 00 00 00  00 01 01 00",
+             "02 02 00  06 02 FF FF 02 00 00 00  01 02 00 FF 00 01 01 00"),
+    BEGUN("FF 00", "11"),
+    OFFERED(0, "FF 01", "11"),
+    RUNNING("FF 00", "11"),
+    OFFERED(0, "FF 01", "11"),
+    RUNNING("00 00", "11"),
+    OFFERED(0, "FF FF", "10"),
+    FINISHED("FF 00", "00"),
+    FINISHED_IN(3),
+
+    STATION("a CHOICE over an unknown variable"),
+    /* CHOICE(0=1; GOAL 1=1; GOAL 1=2): the second child, and so it stays when 0 is known to be 1 */
+    COMPILED("03 02 00  07 01 01  01 00 01 00  00 01 01 00  00 01 02 00",
+             "03 02 00"
+             "07 03 FF FF 01 00 01 00"
+             "01 02 00 FF 00 01 01 00"
+             "01 03 00 FF 00 01 02 00"),
+    BEGUN("01 00", "100"),
+    OFFERED(0, "FF FF", "100"),
+    RUNNING("FF 00", "101"),
+    OFFERED(0, "FF 02", "101"),
+    RUNNING("01 00", "101"),
+    OFFERED(0, "FF 02", "101"),
+    FINISHED("01 02", "000"),
+    FINISHED_IN(3),
+    /* REPEAT(CHOICE(0 differs from 1; START 0; START 1)): the second child too; by a value that
+     * differs the first, and by 1 the second again */
+    COMPILED("04 01 02  08 07 02 02  00 00 00 00  02 00 01 00  00 00 00 00  00 01 00 00",
+             "04 01 02"
+             "08 04 FF FF 00 00 00 00"
+             "07 04 00 01 02 00 01 00"
+             "02 03 01 FF 00 00 00 00"
+             "02 04 01 FF 00 01 00 00"),
+    BEGUN("00", "1100"),
+    OFFERED(1, "FF", "1100"),
+    RUNNING("FF", "1101"),
+    OFFERED(2, "FF", "1101"),
+    STARTS(1, 2), /* a START does not look at the estimate */
+    RUNNING("FF", "1100"),
+    OFFERED(3, "FF", "1100"),
+    RUNNING("00", "1110"),
+    OFFERED(4, "FF", "1110"),
+    STARTS(0, 4),
+    RUNNING("FF", "1100"),
+    OFFERED(5, "FF", "1100"),
+    RUNNING("01", "1101"),
+    FINISHED_IN(0),
+
+    STATION("an estimate with gaps"),
+    /* PAR(WAIT 0=1, WAIT 1 differs from 1, WAIT 31=1), 32 variables, all unknown at first: each
+     * looks at its own variable */
+    COMPILED("04 20 00  05 03 03 03  03 00 00 00  01 00 01 00  02 01 01 00  01 1F 01 00",
+             "04 20 00"
+             "05 04 FF FF 03 00 00 00"
+             "03 02 00 FF 01 00 01 00"
+             "03 03 00 FF 02 01 01 00"
+             "03 04 00 FF 01 1F 01 00"),
+    BEGUN("FF" THIRTY_ONE("FF"), "1111"),
+    OFFERED(0, "FF" THIRTY_ONE("FF"), "1111"),
+    SETTLE_REFUSED(THIRTY_ONE("FF"), 13),
+    SETTLE_REFUSED("FF" THIRTY_ONE("FF") "FF", 13),
+    SETTLE_REFUSED("FB" THIRTY_ONE("FF"), 13),
+    SETTLE_REFUSED(THIRTY_ONE("FF") "FE", 13),
+    RUNNING("01" THIRTY_ONE("FF"), "1011"),
+    OFFERED(0, "FF" THIRTY_ONE("FF"), "1011"),
+    RUNNING(THIRTY_ONE("FF") "01", "1010"),
+    OFFERED(0, "FF" THIRTY_ONE("FF"), "1010"),
+    RUNNING("FF 01" THIRTY("00"), "1010"),
+    OFFERED(0, "FF" THIRTY_ONE("FF"), "1010"),
+    FINISHED("FF 00" THIRTY("FF"), "0000"),
+    FINISHED_IN(4),
+
     STATION("the longest program"), /* a SEQ of 199 GOALs, a cycle for each */
     LONGEST_PROGRAM,
     FINISHED_IN(199),
@@ -839,7 +1022,12 @@ static const struct step steps[] = {
     NOT_ALLOWED(GURVOKE_PHASE_PLACE, 3, 0),
     NOT_ALLOWED(GURVOKE_PHASE_PLACE, 2, 0), /* in phase 2 no mark is set */
     NOT_ALLOWED(GURVOKE_ESTIMATE_PLACE, 251, 0),
+    NOT_ALLOWED(GURVOKE_ESTIMATE_PLACE, 252, 0),
+    NOT_ALLOWED(GURVOKE_ESTIMATE_PLACE, 253, 0),
+    NOT_ALLOWED(GURVOKE_ESTIMATE_PLACE, 254, 0),
     NOT_ALLOWED(GURVOKE_ESTIMATE_PLACE + 1, 1, 0), /* beyond V, K and N */
+    NOT_ALLOWED(GURVOKE_ESTIMATE_PLACE + 1, 255, 0), /* unknown is not 0 */
+    NOT_ALLOWED(GURVOKE_ESTIMATE_PLACE + 31, 255, 0),
     NOT_ALLOWED(GURVOKE_STARTED_PLACE + 1, 1, 0),
     NOT_ALLOWED(GURVOKE_START_PLACE(1), 1, 0),
     NOT_ALLOWED(MARK(3), 1, 0),
@@ -850,6 +1038,7 @@ static const struct step steps[] = {
     NOT_ALLOWED(MARK(0), 0, 1), /* the root */
     NOT_ALLOWED(MARK(1), 0, 1), /* no child of a SEQ, and two */
     NOT_ALLOWED(MARK(2), 1, 0),
+    RECORD_BYTE(GURVOKE_ESTIMATE_PLACE, 255), /* allowed */
     OFFERED(4, "FF", "110"),
     NOT_ALLOWED(MARK(1), 0, 1), /* no child of a SEQ in phase 1 either */
     STARTS(0, 4),
@@ -884,15 +1073,24 @@ static const struct step steps[] = {
     STATION("refusals of a run"), /* of two that apply, the first in the order of its call */
     COMPILED(GOAL_1, GOAL_1_TABLE),
     BEGIN_REFUSED("FB", 316, 13),
+    BEGIN_REFUSED("FC", 316, 13),
+    BEGIN_REFUSED("FD", 316, 13),
+    BEGIN_REFUSED("FE", 316, 13),
     BEGIN_REFUSED("", 316, 13),
     BEGIN_REFUSED("00 00", 316, 13),
+    BEGIN_REFUSED("FF FF", 316, 13),
     BEGIN_REFUSED("00", 316, 8),
+    BEGIN_REFUSED("FF", 316, 8),
     BEGUN("00", "1"),
     SETTLE_REFUSED("FB", 11),
     OFFERED(5, "01", "1"),
     SETTLE_REFUSED("FB", 13),
+    SETTLE_REFUSED("FC", 13),
+    SETTLE_REFUSED("FD", 13),
+    SETTLE_REFUSED("FE", 13),
     SETTLE_REFUSED("", 13),
     SETTLE_REFUSED("00 00", 13),
+    SETTLE_REFUSED("FF FF", 13),
     OFFER_REFUSED(4, 0, 11),
     RUNNING("00", "1"),
     SETTLE_REFUSED("00", 11),

@@ -61,9 +61,13 @@ extern "C" {
  * 1.1  An offer names the lowest-numbered contested variable; in 1.0 it could be any of them.
  * 2.0  Every marked START sets its clock to the cycle's time; in 1.1 a started clock kept its start.
  *      The layout of files, tables and records is that of 1.1.
+ * 2.1  Estimate byte 255, GURVOKE_UNKNOWN_VALUE, says that the variable is unknown; in 2.0 it was
+ *      refused with 13. Callers of 2.0 need not change, unless they count on that refusal. The layout
+ *      of files, tables and records is that of 2.0. A record may hold GURVOKE_UNKNOWN_VALUE in its
+ *      estimate; a library of 2.0 refuses such a record with 10.
  */
 #define GURVOKE_VERSION_MAJOR 2
-#define GURVOKE_VERSION_MINOR 0
+#define GURVOKE_VERSION_MINOR 1
 
 /*
  * The most parts, variables and clocks of a program, the depth of its deepest part (the root has
@@ -74,6 +78,14 @@ extern "C" {
 #define GURVOKE_MAX_CLOCKS 16
 #define GURVOKE_MAX_DEPTH 16
 #define GURVOKE_MAX_VALUE 250
+
+/*
+ * Stands in an estimate in place of a value: the sensor has nothing to say, so the variable is
+ * unknown. In a goal byte GURVOKE_NO_GOAL says that there is no goal. These are two things with two
+ * names, and no code should rely on their numbers being the same: a goal byte that is no value must
+ * not be copied into an estimate.
+ */
+#define GURVOKE_UNKNOWN_VALUE 255
 
 /*
  * How many bytes it takes to hold a number of parts or a part's number, a kind, a number of
@@ -120,10 +132,11 @@ extern "C" {
 #define GURVOKE_ROW_PLACE(part) GURVOKE_TABLE_LENGTH(part)
 
 /*
- * A run record: the phase, the last time, the estimate (a byte for each variable), which clocks are
- * started (a byte for each), when they were last started (a time for each), and the marks (a byte for
- * each part), at these places. GURVOKE_RECORD is its length in bytes. It has room for the most
- * variables, clocks and parts; what a program does not have is 0.
+ * A run record: the phase, the last time, the estimate (a byte for each variable: a value up to
+ * GURVOKE_MAX_VALUE, or GURVOKE_UNKNOWN_VALUE), which clocks are started (a byte for each), when they
+ * were last started (a time for each), and the marks (a byte for each part), at these places.
+ * GURVOKE_RECORD is its length in bytes. It has room for the most variables, clocks and parts; what a
+ * program does not have is 0, in the estimate too.
  */
 #define GURVOKE_PHASE_PLACE 0
 #define GURVOKE_TIME_PLACE (GURVOKE_PHASE_PLACE + 1)
@@ -146,7 +159,16 @@ extern "C" {
 #define GURVOKE_PHASE_OFFERED 1
 #define GURVOKE_PHASE_FINISHED 2
 
-/* The kinds of parts. */
+/*
+ * The kinds of parts. Where a variable is unknown (GURVOKE_UNKNOWN_VALUE),
+ *
+ *   a GOAL that names it is not reached, and goes on being offered;
+ *   a START does not look at the estimate, and starts its clock;
+ *   a WAIT on it stays;
+ *   a MAINTAIN over it goes on;
+ *   a deciding CHOICE over it takes its second child;
+ *   SEQ, PAR and REPEAT do not look at the estimate.
+ */
 #define GURVOKE_GOAL 1
 #define GURVOKE_START 2
 #define GURVOKE_WAIT 3
@@ -158,7 +180,8 @@ extern "C" {
 
 /*
  * The tests of a condition: the variable equals the value, or differs from it; the clock reads at
- * least the value, or below it.
+ * least the value, or below it. Over a variable that is unknown a condition is open, neither
+ * satisfied nor violated, with GURVOKE_DIFFERS too; so it is over a clock that is not started.
  */
 #define GURVOKE_EQUALS 1
 #define GURVOKE_DIFFERS 2
@@ -178,7 +201,8 @@ extern "C" {
 #define GURVOKE_RECORD_NOT_ALLOWED 10 /* record not allowed, or under GURVOKE_RECORD bytes */
 #define GURVOKE_WRONG_PHASE 11 /* settling before an offer, or a second offer before the settling */
 #define GURVOKE_TIME_BEFORE_LAST 12 /* time before the last time */
-#define GURVOKE_ESTIMATE_NOT_ALLOWED 13 /* not a byte for each variable, or one too large */
+#define GURVOKE_ESTIMATE_NOT_ALLOWED 13 /* not a byte for each variable, or one that is above
+                                           GURVOKE_MAX_VALUE and not GURVOKE_UNKNOWN_VALUE */
 #define GURVOKE_RUN_FINISHED 14 /* the run is finished */
 #define GURVOKE_NOTHING_AT_WORK 15 /* after settling, root not ended, yet no leaf or deciding CHOICE
                                       marked (no such record is known) */
@@ -204,7 +228,10 @@ extern "C" {
 #define GURVOKE_NAMED(answer) ((uint32_t)(answer) - GURVOKE_ANSWERED)
 #define GURVOKE_NAMES_NONE(answer) (GURVOKE_NAMED(answer) == GURVOKE_NONE)
 
-/* A goal byte that is no value: no goal for that variable, or two goals that differ. */
+/*
+ * A goal byte that is no value: no goal for that variable, or two goals that differ. Neither says
+ * whether the variable is unknown (GURVOKE_UNKNOWN_VALUE).
+ */
 #define GURVOKE_NO_GOAL 255
 #define GURVOKE_CONTESTED 254
 
@@ -226,8 +253,9 @@ uint32_t gurvoke_decompile(const uint8_t *table, size_t table_len, uint8_t *file
 
 /*
  * Begins a run: writes a fresh record of GURVOKE_RECORD bytes to the start of `record`, whatever
- * it held before. The estimate has one byte for each variable, at most GURVOKE_MAX_VALUE. Further
- * bytes of `record` stay as they are. Answers 0 or a refusal: 9, 13, 8.
+ * it held before. The estimate has one byte for each variable: a value up to GURVOKE_MAX_VALUE, or
+ * GURVOKE_UNKNOWN_VALUE where its sensor has nothing to say. Further bytes of `record` stay as they
+ * are. Answers 0 or a refusal: 9, 13, 8.
  */
 uint32_t gurvoke_begin(const uint8_t *table, size_t table_len, const uint8_t *estimate,
                        size_t estimate_len, uint8_t *record, size_t record_len);
@@ -243,10 +271,12 @@ uint32_t gurvoke_offer(const uint8_t *table, size_t table_len, uint8_t *record, 
                        uint32_t time, uint8_t *goals, size_t goals_len);
 
 /*
- * Settles the cycle with the new estimate, one byte for each variable, at most GURVOKE_MAX_VALUE.
- * Every START that is marked before it sets its clock to the cycle's time, whether or not the clock is
- * started; conditions are judged by the clocks as they were before. Further bytes of `record` stay as
- * they are. Answers a refusal (9, 10, 14, 11, 13, 15), GURVOKE_RUNNING or GURVOKE_FINISHED.
+ * Settles the cycle with the new estimate, one byte for each variable: a value up to
+ * GURVOKE_MAX_VALUE, or GURVOKE_UNKNOWN_VALUE where its sensor has nothing to say. Every START that is
+ * marked before it sets its clock to the cycle's time, whether or not the clock is started; conditions
+ * are judged by the clocks as they were before. The estimate is stored as it is: no earlier value
+ * stands in for an unknown one. Further bytes of `record` stay as they are. Answers a refusal (9, 10,
+ * 14, 11, 13, 15), GURVOKE_RUNNING or GURVOKE_FINISHED.
  */
 uint32_t gurvoke_settle(const uint8_t *table, size_t table_len, uint8_t *record, size_t record_len,
                         const uint8_t *estimate, size_t estimate_len);

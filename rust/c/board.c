@@ -2,8 +2,8 @@
  * A plain executive over the location table: the five functions of include/gurvoke.h under another
  * prefix, with the same answers and buffers.
  *
- * It is written from document 01 and from document 02's R-1 and R-2, with nothing proved, as one would
- * write it for a board. The tests of the library run on it too, and bin/performance compares the
+ * It is written from document 01 and from document 02's R-1, R-2 and R-4, with nothing proved, as one
+ * would write it for a board. The tests of the library run on it too, and bin/performance compares the
  * library's cost with its cost. It is one file, so that the compiler has all of it at hand, as it has
  * all of the library.
  */
@@ -18,6 +18,7 @@ enum {
     MAX_CLOCKS = 16,
     MAX_DEPTH = 16,
     MAX_VALUE = 250,
+    UNKNOWN_VALUE = 255, /* in an estimate */
     NO_PART = 255, /* no parent, no next */
     NONE = 255 /* no contested variable */
 };
@@ -329,10 +330,11 @@ static void write_time(uint8_t *bytes, uint32_t time)
     bytes[3] = (uint8_t)(time >> 24);
 }
 
+/* Whether each byte of an estimate is a value, or says that the variable is unknown. */
 static bool values_allowed(const uint8_t *values, unsigned variables)
 {
     for (unsigned variable = 0; variable < variables; variable++) {
-        if (values[variable] > MAX_VALUE)
+        if (values[variable] > MAX_VALUE && values[variable] != UNKNOWN_VALUE)
             return false;
     }
     return true;
@@ -480,20 +482,22 @@ static uint32_t check_run(const uint8_t *table, size_t table_len, const uint8_t 
     return DONE;
 }
 
-/* What a condition comes to; over an unstarted clock it is neither. */
-enum outcome { SATISFIED, VIOLATED, NEITHER };
+/* What a condition comes to; over an unknown variable and over an unstarted clock it is open. */
+enum outcome { SATISFIED, VIOLATED, OPEN };
 
 static enum outcome outcome_of(const uint8_t *operand, const uint8_t *record,
                                const uint8_t *estimate)
 {
     unsigned subject = operand[1];
     unsigned value = value_of(operand);
-    if (operand[0] == EQUALS)
-        return estimate[subject] == value ? SATISFIED : VIOLATED;
-    if (operand[0] == DIFFERS)
-        return estimate[subject] != value ? SATISFIED : VIOLATED;
+    if (operand[0] == EQUALS || operand[0] == DIFFERS) {
+        if (estimate[subject] == UNKNOWN_VALUE)
+            return OPEN;
+        bool equal = estimate[subject] == value;
+        return equal == (operand[0] == EQUALS) ? SATISFIED : VIOLATED;
+    }
     if (record[STARTED + subject] == 0)
-        return NEITHER;
+        return OPEN;
     uint32_t reading = read_time(record + TIME) - read_time(record + STARTS + TIME_LEN * subject);
     if (operand[0] == AT_LEAST)
         return reading >= value ? SATISFIED : VIOLATED;
@@ -574,7 +578,7 @@ static bool part_ends(const uint8_t *table, unsigned part, const uint8_t *record
     const uint8_t *row = row_of(table, part);
     const uint8_t *operand = row + OPERAND;
     switch (row[KIND]) {
-    case GOAL:
+    case GOAL: /* a variable that is unknown has no value that a GOAL can name */
         return estimate[operand[1]] == operand[2];
     case START:
         return true;

@@ -16,6 +16,19 @@ pub fn named<const N: usize>(counts: [(&str, u64); N]) -> Counts {
         .to_vec()
 }
 
+/// Counts of what has these names, in their order.
+pub fn by_name<const N: usize>(names: [&str; N], numbers: [u64; N]) -> Counts {
+    let names = names.map(str::to_string);
+    names.into_iter().zip(numbers).collect()
+}
+
+/// Counts what is so, in the order of the names.
+pub fn note<const N: usize>(numbers: &mut [u64; N], are_so: [bool; N]) {
+    for (number, is_so) in numbers.iter_mut().zip(are_so) {
+        *number += u64::from(is_so);
+    }
+}
+
 /// Fails unless the list has exactly these counts of a test. What never came has no line. The
 /// file is that of the test, as `file!()` gives it.
 pub fn assert_counts(file: &str, test: &str, counts: &Counts) {

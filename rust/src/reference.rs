@@ -1,9 +1,9 @@
 //! A plain executive over the location table, with the answers and buffers of the C interface.
 //!
 //! It is written from document 01's "Location table", "Run record" and "One cycle over the table" and
-//! from document 02's, in the order of their sentences and with nothing proved: slices,
-//! loops and local arrays, as one would write it for a board. The tests of the library run on it too,
-//! and `bin/performance` compares the library's cost with its cost.
+//! from document 02's, in the order of their sentences and with nothing proved:
+//! slices, loops and local arrays, as one would write it for a board. The tests of the library run on
+//! it too, and `bin/performance` compares the library's cost with its cost.
 
 mod program;
 mod table;
@@ -19,7 +19,9 @@ use crate::refusals::{
     BUFFER_TOO_SHORT, ESTIMATE_NOT_ALLOWED, NOTHING_AT_WORK, NOT_A_TABLE, RECORD_NOT_ALLOWED,
     RUN_FINISHED, TIME_BEFORE_LAST, WRONG_PHASE,
 };
-use crate::sizes::{MAX_CLOCKS, MAX_PARTS, MAX_VALUE, MAX_VARIABLES, NO_PART, TIME_LEN};
+use crate::sizes::{
+    MAX_CLOCKS, MAX_PARTS, MAX_VALUE, MAX_VARIABLES, NO_PART, TIME_LEN, UNKNOWN_VALUE,
+};
 use table::Table;
 
 pub use table::{compile, decompile};
@@ -118,8 +120,8 @@ fn examine<'a, 'b>(
 enum Outcome {
     Satisfied,
     Violated,
-    /// Over an unstarted clock.
-    Neither,
+    /// Over an unknown variable or an unstarted clock.
+    Open,
 }
 
 impl Table<'_> {
@@ -148,9 +150,10 @@ impl Table<'_> {
         let subject = usize::from(b1);
         let value = u16::from_le_bytes([b2, b3]);
         let holds = match b0 {
+            EQUALS | DIFFERS if estimate[subject] == UNKNOWN_VALUE => return Outcome::Open,
             EQUALS => u16::from(estimate[subject]) == value,
             DIFFERS => u16::from(estimate[subject]) != value,
-            _ if record[STARTED + subject] == 0 => return Outcome::Neither,
+            _ if record[STARTED + subject] == 0 => return Outcome::Open,
             AT_LEAST => reading(record, subject) >= u32::from(value),
             _ => reading(record, subject) < u32::from(value),
         };
@@ -217,6 +220,7 @@ impl Table<'_> {
         after
     }
 
+    /// Whether a GOAL's variable has its value. One that is unknown has none that a GOAL can name.
     fn achieved(&self, goal: usize, estimate: &[u8]) -> bool {
         let [_, variable, value, _] = self.operand(goal);
         estimate[usize::from(variable)] == value
@@ -301,8 +305,11 @@ fn estimate_allowed(estimate: &[u8], table: &Table) -> bool {
     estimate.len() == table.sizes.variables && values_allowed(estimate)
 }
 
+/// Whether each of these bytes of an estimate is a value, or says that the variable is unknown.
 fn values_allowed(values: &[u8]) -> bool {
-    values.iter().all(|&value| u16::from(value) <= MAX_VALUE)
+    values
+        .iter()
+        .all(|&value| u16::from(value) <= MAX_VALUE || value == UNKNOWN_VALUE)
 }
 
 fn record_allowed(record: &Record, table: &Table) -> bool {

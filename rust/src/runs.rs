@@ -3,20 +3,27 @@
 //! The calls follow the run that they are for, so that most of them are accepted.
 
 mod any_state;
+mod falling_silent;
 mod findings;
+mod gaps;
 mod programs;
+mod silences;
 mod starts;
 
 use crate::answers::NO_GOAL;
 use crate::parts::{Condition, Test};
 use crate::record::Phase;
 use crate::rng::Rng;
-use crate::sizes::MAX_VALUE;
-use crate::unfolding::{Program, Run, Tree};
+use crate::sizes::{MAX_VALUE, UNKNOWN_VALUE};
+use crate::unfolding::{Program, Rest, Run, Tree};
+use falling_silent::{due_in_silence, let_fall_silent};
 
 pub use any_state::any_state;
-pub use findings::{findings, Findings};
+pub use falling_silent::silent_program;
+pub use findings::{findings, Findings, DEEP};
+pub use gaps::{GapCounts, Gaps};
 pub use programs::{contending_program, doubtful_program, program, program_of, restarting_program};
+pub use silences::{SilenceCounts, Silences};
 pub use starts::{StartCounts, Starts};
 
 /// A call of a run.
@@ -30,8 +37,12 @@ pub enum Call {
 pub struct Caller {
     /// The clocks and readings that the program's conditions compare.
     limits: Vec<(usize, u32)>,
-    /// How many times in ten a goal that was offered is reached.
+    /// How many times in ten a goal that was offered is reached, of a variable that is known.
     zeal: usize,
+    /// Of one variable in so many an estimate says nothing.
+    silence: usize,
+    /// Whether sensors mostly fall silent just as a clock comes due.
+    falls_silent: bool,
     /// One call in so many is made to be refused.
     care: usize,
     /// The goals that were offered last.
@@ -45,8 +56,18 @@ impl Caller {
         Caller {
             limits,
             zeal: rng.between(1, 9),
+            silence: rng.pick(&[2, 5, 20]),
+            falls_silent: false,
             care: rng.pick(&[3, 8, 30]),
             goals: vec![NO_GOAL; program.sizes.variables],
+        }
+    }
+
+    /// A caller whose sensors mostly fall silent just as a clock comes due, and come back.
+    pub fn falling_silent(rng: &mut Rng, program: &Program) -> Caller {
+        Caller {
+            falls_silent: true,
+            ..Caller::new(rng, program)
         }
     }
 
@@ -87,6 +108,11 @@ impl Caller {
     /// limit, or far on.
     fn time(&self, rng: &mut Rng, run: &Run) -> u32 {
         let last = run.time;
+        if self.falls_silent && !rng.one_in(4) {
+            if let Some(due) = due_in_silence(rng, run) {
+                return due;
+            }
+        }
         match rng.below(32) {
             0..=5 => last,
             6..=13 => last.saturating_add(1),
@@ -128,19 +154,26 @@ impl Caller {
         rng.pick(&[0, run.time.saturating_sub(1), earlier, right])
     }
 
-    /// An estimate that is allowed: goals reached, things as they were, small values, any values.
+    /// An estimate that is allowed: unknown variables, goals reached, things as they were, small
+    /// values, any values.
     fn estimate(&self, rng: &mut Rng, run: &Run) -> Vec<u8> {
         let old = run.estimate.iter();
-        old.zip(&self.goals)
+        let mut estimate: Vec<u8> = old
+            .zip(&self.goals)
             .map(|(&old, &goal)| {
                 let small = rng.between(0, 2) as u8;
                 let any = rng.between(0, usize::from(MAX_VALUE)) as u8;
                 match rng.below(10) {
+                    _ if rng.one_in(self.silence) => UNKNOWN_VALUE,
                     lot if lot < self.zeal => reached(goal, small),
                     _ => rng.pick(&[old, old, small, small, MAX_VALUE as u8, any]),
                 }
             })
-            .collect()
+            .collect();
+        if self.falls_silent {
+            let_fall_silent(rng, run, &mut estimate);
+        }
+        estimate
     }
 }
 
@@ -173,6 +206,27 @@ fn clock_limit(condition: &Condition) -> Option<(usize, u32)> {
     over_clock.then_some((subject, u32::from(condition.value)))
 }
 
+/// Calls `visit` with each part that is going on: its depth, the part, and what remains of it.
+fn visit_going_on<'a>(run: &Run<'a>, mut visit: impl FnMut(usize, &'a Tree, &Rest)) {
+    if let Some(rest) = &run.rest {
+        visit_inside(1, &run.program.root, rest, &mut visit);
+    }
+}
+
+fn visit_inside<'a>(
+    depth: usize,
+    tree: &'a Tree,
+    rest: &Rest,
+    visit: &mut impl FnMut(usize, &'a Tree, &Rest),
+) {
+    visit(depth, tree, rest);
+    for (place, child) in tree.children().iter().enumerate() {
+        if let Some(rest) = rest.of_child(place) {
+            visit_inside(depth + 1, child, rest, visit);
+        }
+    }
+}
+
 /// Room for the goals: just enough, or more.
 fn enough_room(rng: &mut Rng, run: &Run) -> usize {
     let exact = run.program.sizes.variables;
@@ -189,15 +243,22 @@ pub fn spoil(rng: &mut Rng, mut estimate: Vec<u8>) -> Vec<u8> {
         1 => estimate.truncate(len - 1),
         2 => estimate.truncate(place),
         3 => estimate[place] = MAX_VALUE as u8 + 1,
-        4 => estimate[place] = rng.pick(&[252, 253, 254, 255]),
+        4 => estimate[place] = no_value(rng),
         _ => {}
     }
     estimate
 }
 
+/// A byte that is no value, and does not say that the variable is unknown.
+fn no_value(rng: &mut Rng) -> u8 {
+    let least = usize::from(MAX_VALUE) + 1;
+    let most = usize::from(UNKNOWN_VALUE) - 1;
+    rng.between(least, most) as u8
+}
+
 /// A first estimate that is allowed.
 pub fn first_estimate(rng: &mut Rng, program: &Program) -> Vec<u8> {
     (0..program.sizes.variables)
-        .map(|_| rng.pick(&[0, 0, 1, 2, MAX_VALUE as u8]))
+        .map(|_| rng.pick(&[0, 0, 1, 2, MAX_VALUE as u8, UNKNOWN_VALUE]))
         .collect()
 }

@@ -7,7 +7,7 @@ use crate::record::Phase;
 use crate::rehearsal::{Answer, Call, LatestRun};
 use crate::rng::Rng;
 use crate::runs::{self, Caller};
-use crate::sizes::{MAX_VALUE, MAX_VARIABLES};
+use crate::sizes::{MAX_VALUE, MAX_VARIABLES, UNKNOWN_VALUE};
 use crate::unfolding::{Program, Run};
 
 /// A list of so many calls for this program. The last line may lack its line feed.
@@ -143,7 +143,8 @@ fn perhaps_long(rng: &mut Rng, estimate: Vec<u8>) -> Vec<u8> {
     }
     let len = rng.pick(&[MAX_VARIABLES + 1, 64, 255, 256, 257, 300]);
     let value = rng.between(0, usize::from(MAX_VALUE)) as u8;
-    vec![value; len]
+    let byte = rng.pick(&[value, UNKNOWN_VALUE]);
+    vec![byte; len]
 }
 
 /// A call as a line.

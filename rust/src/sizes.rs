@@ -15,6 +15,8 @@ pub const MAX_CLOCKS: usize = 16;
 pub const MAX_DEPTH: usize = 16;
 /// Largest value of a variable.
 pub const MAX_VALUE: u16 = 250;
+/// Stands in an estimate for the value of a variable that is unknown.
+pub const UNKNOWN_VALUE: u8 = 255;
 /// Stands in a table for no parent or no next.
 pub const NO_PART: usize = 255;
 
@@ -134,6 +136,12 @@ mod tests {
         assert_eq!([SIZES_LEN, PART_LEN, ROW_LEN], [3, 5, 8]);
         assert_eq!([MAX_FILE_LEN, MAX_TABLE_LEN], [1003, 1603]);
         assert_eq!(record::RECORD_LEN, 317);
+    }
+
+    /// "Estimate byte 255 now means that the variable is unknown"; values end at 250.
+    #[test]
+    fn bytes_of_an_estimate() {
+        assert_eq!([MAX_VALUE, UNKNOWN_VALUE.into()], [250, 255]);
     }
 
     /// A row has kind, end, parent, next and operand, one after the other.

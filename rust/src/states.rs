@@ -1,11 +1,12 @@
 //! Records read back as states of a run.
 //!
 //! A record is allowed exactly when it holds a state of the unfolding, whether or not a run comes
-//! to it: document 01's clauses on marks say of each kind what can remain of a part of that kind.
-//! So this is the paper's "allowed", said over the tree.
+//! to it: document 01's clauses on marks say of each kind what can remain of a part of that kind, and
+//! document 02's R-4 that a variable can be unknown. So this is the papers' "allowed", said over the
+//! tree.
 
 use crate::record::{self, time_at, Phase};
-use crate::sizes::MAX_VALUE;
+use crate::sizes::{MAX_VALUE, UNKNOWN_VALUE};
 use crate::unfolding::{Program, Rest, Run, Tree};
 
 /// The state that a record holds, if it is allowed. Bytes behind the record do not count.
@@ -19,7 +20,7 @@ pub fn read<'a>(program: &'a Program, bytes: &[u8]) -> Option<Run<'a>> {
     let marks = front(&bytes[record::MARKS..], sizes.parts)?;
     let rest = rest(&program.root, &mut marks.iter(), phase)?;
 
-    let values = estimate.iter().all(|&value| u16::from(value) <= MAX_VALUE);
+    let values = estimate.iter().all(|&byte| is_value_or_unknown(byte));
     let started = clocks.iter().flatten().all(|&start| start <= time);
     let finished = rest.is_none() == (phase == Phase::Finished);
     (values && started && finished).then(|| Run {
@@ -38,6 +39,11 @@ pub fn read<'a>(program: &'a Program, bytes: &[u8]) -> Option<Run<'a>> {
 fn front(entries: &[u8], count: usize) -> Option<&[u8]> {
     let (front, beyond) = entries.split_at(count);
     beyond.iter().all(|&entry| entry == 0).then_some(front)
+}
+
+/// Whether the byte may stand in an estimate.
+fn is_value_or_unknown(byte: u8) -> bool {
+    byte == UNKNOWN_VALUE || u16::from(byte) <= MAX_VALUE
 }
 
 /// When each clock was last started, if flags and times fit each other.

@@ -1,9 +1,9 @@
 //! A run by unfolding the program's tree: no table, no rows and no marks.
 //!
 //! It is written from nothing but document 01's "Unfolding the tree" and "The two runs of demand 3"
-//! and document 02's, and shares nothing with the library or with the executive over the
-//! table. The state is what these sections name: phase, last time, estimate, clocks, and what remains
-//! of the tree.
+//! and document 02's, and shares nothing with the library or with the executive over
+//! the table. The state is what these sections name: phase, last time, estimate, clocks, and what
+//! remains of the tree.
 
 mod tree;
 
@@ -13,7 +13,7 @@ use crate::record::{self, Phase};
 use crate::refusals::{
     BUFFER_TOO_SHORT, ESTIMATE_NOT_ALLOWED, RUN_FINISHED, TIME_BEFORE_LAST, WRONG_PHASE,
 };
-use crate::sizes::{Sizes, MAX_VALUE};
+use crate::sizes::{Sizes, MAX_VALUE, UNKNOWN_VALUE};
 use tree::{tree_of, View};
 
 pub use tree::{Rest, Tree};
@@ -58,6 +58,7 @@ pub struct Run<'a> {
     pub program: &'a Program,
     pub phase: Phase,
     pub time: u32,
+    /// A byte for each variable: its value, or that it is unknown.
     pub estimate: Vec<u8>,
     /// When each clock was started last, where it was.
     pub clocks: Vec<Option<u32>>,
@@ -134,6 +135,11 @@ impl<'a> Run<'a> {
         Ok(self.close_cycle())
     }
 
+    /// The value of a variable by the estimate stored, if it is known.
+    pub fn value(&self, variable: usize) -> Option<u8> {
+        self.view().value(variable)
+    }
+
     /// What a clock reads at the last time, if it is started.
     pub fn reading(&self, clock: usize) -> Option<u32> {
         self.view().reading(clock)
@@ -197,8 +203,13 @@ fn put(bytes: &mut [u8], place: usize, field: &[u8]) {
 }
 
 fn estimate_allowed(program: &Program, estimate: &[u8]) -> bool {
-    estimate.len() == program.sizes.variables
-        && estimate.iter().all(|&value| u16::from(value) <= MAX_VALUE)
+    let mut values = estimate.iter().filter_map(|&byte| known(byte));
+    estimate.len() == program.sizes.variables && values.all(|value| u16::from(value) <= MAX_VALUE)
+}
+
+/// The value that an estimate's byte says, if it says one.
+fn known(byte: u8) -> Option<u8> {
+    (byte != UNKNOWN_VALUE).then_some(byte)
 }
 
 /// What an offer gives, from the variables and values of the GOALs at work.

@@ -14,12 +14,12 @@ use Rattle.base.specs.Lists.{all, firstFailing, bytesAt}
 use Rattle.base.proofs.Lists.{and-left, and-right, cond-map, cond-same, none-fails, all-replicate}
 use Rattle.base.proofs.Stores.{bytes-sets}
 use Rattle.meaning.specs.declared.Form.the-variants.{File}
-use Rattle.meaning.specs.Sizes.{maxValue, noPart, timeLimit}
+use Rattle.meaning.specs.Sizes.{noPart, timeLimit}
 use Rattle.meaning.specs.Tree.{Part, size}
 use Rattle.meaning.specs.Program.{variables, clocks, parts, entryAllowed, Within, programRefusal}
 use Rattle.meaning.specs.Table.{tableOf, compiled, isTable}
 use Rattle.meaning.specs.Conditions.{Situation}
-use Rattle.meaning.specs.Record.{waiting, offered, finished, recordBytes, recordLength, startedFlag, rootAllowed, partsAllowed, recordAllowed, clockAllowed}
+use Rattle.meaning.specs.Record.{waiting, offered, finished, recordBytes, recordLength, startedFlag, estimateByteAllowed, rootAllowed, partsAllowed, recordAllowed, clockAllowed}
 use Rattle.meaning.specs.Cycle.{initialMarks, beginRefusal, begunInto, leavesFrom, goalBytes, rootEnded, worksFrom, estimateAllowed, offerRefusal, checkedMarks, offeredRecord, offeredGoals, offeredName, offeredInto, goalsInto, settledMarks, settleRefusal, settledRecord, settledInto, clocksAfter}
 use Rattle.meaning.specs.Answers.{bufferTooShort, wrongPhase, timeBeforeLast, estimateNotAllowed, runFinished}
 use Rattle.meaning.proofs.Files.{accepted-file}
@@ -72,7 +72,7 @@ module _ (v k : ℕ) (p : Part) (w : Within v k p) where
   record Good (phase time : ℕ) (est started starts : List ℕ) (rest : Option (Rest p)) : Type 0 where
     fits : Fits t time est started starts (marksLeft p rest)
     flags : all (λ b. leb b 1) started ≡ true
-    small : all (λ x. leb x maxValue) est ≡ true
+    estimate-allowed : all estimateByteAllowed est ≡ true
     ticking : (c : ℕ) → c < clocks t → clockAllowed time (getD started c 0) (getD starts c 0) ≡ true
     phased : Phase phase rest
 
@@ -112,7 +112,7 @@ module _ (v k : ℕ) (p : Part) (w : Within v k p) where
           phase-allowed = phase-small phase rest (g .phased);
           flags-allowed = g .flags;
           marks-allowed = marks-small rest;
-          estimate-allowed = g .small;
+          estimate-allowed = g .estimate-allowed;
           clocks-allowed = g .ticking;
           root-allowed = marks-in rest (g .phased) .0;
           parts-allowed = marks-in rest (g .phased) .1;
@@ -174,7 +174,7 @@ module _ (v k : ℕ) (p : Part) (w : Within v k p) where
     remaining : Rest p
     is : rest ≡ some remaining
     long : length new ≡ v
-    small : all (λ x. leb x maxValue) new ≡ true
+    estimate-allowed : all estimateByteAllowed new ≡ true
 
   settle-waits : (phase time : ℕ) (est started starts new : List ℕ) (rest : Option (Rest p)) → Phase phase rest
       → refusalOf p v (stateOf phase time est started starts rest) (settled new) ≡ 0 → Offered new rest
@@ -183,7 +183,7 @@ module _ (v k : ℕ) (p : Part) (w : Within v k p) where
   settle-waits phase time est started starts new (some r) h z =
       let tests = none-fails ((runFinished, not (eqb phase finished)) ∷ (wrongPhase, not (eqb phase waiting)) ∷ (estimateNotAllowed, estimateAllowed v new) ∷ []) refl z in
       let allowed = tests .1 .1 .0 in
-      record { remaining = r; is = refl; long = eqb-true (length new) v (and-left (eqb (length new) v) (all (λ x. leb x maxValue) new) allowed); small = and-right (eqb (length new) v) (all (λ x. leb x maxValue) new) allowed }
+      record { remaining = r; is = refl; long = eqb-true (length new) v (and-left (eqb (length new) v) (all estimateByteAllowed new) allowed); estimate-allowed = and-right (eqb (length new) v) (all estimateByteAllowed new) allowed }
 
   -- One call: the same reply, a record that holds the next state, and a state that a run comes to
   record Stepped (r : List ℕ) (st : State p) (more : List ℕ) (c : Call) : Type 0 where
@@ -208,7 +208,7 @@ module _ (v k : ℕ) (p : Part) (w : Within v k p) where
           record {
             fits = rw (check-whole t at-now p lies r) at (offered-fits (g .fits) now fits-now);
             flags = g .flags;
-            small = g .small;
+            estimate-allowed = g .estimate-allowed;
             ticking = λ c h. clock-later time now (getD started c 0) (getD starts c 0) later (g .ticking c h);
             phased = inr refl;
           }
@@ -217,7 +217,7 @@ module _ (v k : ℕ) (p : Part) (w : Within v k p) where
       offered-leaves = ap (leavesFrom t 0) (checked-marks (g .fits) phase more now ∙ check-whole t at-now p lies r) ∙ leaves-root (some (check at-now p r))
 
     -- after a settling
-    module _ (new : List ℕ) (long : length new ≡ v) (small-new : all (λ x. leb x maxValue) new ≡ true) where
+    module _ (new : List ℕ) (long : length new ≡ v) (new-allowed : all estimateByteAllowed new ≡ true) where
       abbrev at-end : Situation
       at-end = judged new started starts time
 
@@ -236,7 +236,7 @@ module _ (v k : ℕ) (p : Part) (w : Within v k p) where
           record {
             fits = rw (settle-root t at-end p lies r, leaves-root (some r), ← flags-each, ← starts-each) at (settled-fits (g .fits) new (long ∙ sym variables-are));
             flags = rw flags-each (flags-small (clocks t) (working p r) started (g .fits .shape .started-is) (g .flags));
-            small = small-new;
+            estimate-allowed = new-allowed;
             ticking = rw (flags-each, starts-each) (clocks-settled (clocks t) (working p r) started starts time (g .ticking));
             phased = phase-next at-end r;
           }
@@ -299,8 +299,8 @@ module _ (v k : ℕ) (p : Part) (w : Within v k p) where
     settle-accepted new z =
         let e : settleRefusal t (held phase time est started starts (some r) more) new ≡ 0 = settle-refusal phase time est started starts more (some r) g new ∙ z in
         let found = settle-waits phase time est started starts new (some r) (g .phased) z in
-        let h = settled-held phase time est started starts r g more new (found .long) (found .small) in
-        let next = settled-good phase time est started starts r g more new (found .long) (found .small) in
+        let h = settled-held phase time est started starts r g more new (found .long) (found .estimate-allowed) in
+        let next = settled-good phase time est started starts r g more new (found .long) (found .estimate-allowed) in
         record {
           replied = rw (e, z, h, phase-read (next .fits) (phaseFor p (settle (judged new started starts time) p r)) more);
           holding = rw (e, z) h;
@@ -412,7 +412,7 @@ module _ (v k : ℕ) (p : Part) (w : Within v k p) where
       record {
         fits = rw (initial-lies t p lies, clocks-are) at (begun-fits t est room h length-begun);
         flags = all-replicate (λ b. leb b 1) k 0 refl;
-        small = estimate-fits t est (begin-tests t est room h .1 .0) .1;
+        estimate-allowed = estimate-fits t est (begin-tests t est room h .1 .0) .1;
         ticking = rw clocks-are (clocks-begun k 0);
         phased = inl (refl, afresh-holding p);
       }

@@ -207,7 +207,8 @@ Timed (offer time buffer ∷ cs) = (time < timeLimit) × Timed cs
 Timed (settling est ∷ cs) = Timed cs
 
 -- Demand 3 for a program file, a first estimate, a record buffer and a list of calls, by the definitions: the file has a tree; a beginning is refused by 13 or 8
--- and then writes nothing ("a refused beginning starts neither run"); from one that is not refused on, the two runs are alike
+-- and then writes nothing ("a refused beginning starts neither run"); from one that is not refused on, the two runs are alike. Every estimate that is
+-- allowed is covered: "The tree comparison covers runs with gaps too" (document 02, R-4)
 pub record RunsAlike (f est r : List ℕ) (cs : List Call) : Type 0 where
   pub program : Part
   pub tree-is : treeOf File f ≡ some program

@@ -66,7 +66,7 @@ unfoldable mutual
   afreshAll (one p) = afresh p
   afreshAll (more p ps) = both (afresh p) (afreshAll ps)
 
--- "MAINTAIN is its child, checked at each offer; once violated it offers nothing"
+-- "MAINTAIN is its child, checked at each offer; once violated it offers nothing"; "an open MAINTAIN goes on" (document 02, R-4)
 unfoldable mutual
   pub check : Situation → (p : Part) → Rest p → Rest p
   check sit (goal o) r = r
@@ -132,6 +132,7 @@ restOfBoth none (some b) = some (that b)
 restOfBoth (some a) none = some (this a)
 restOfBoth (some a) (some b) = some (both a b)
 
+-- "An open WAIT stays", "an open CHOICE takes its second child, and a GOAL on an unknown variable is not reached" (document 02, R-4)
 unfoldable mutual
   pub settle : Situation → (p : Part) → Rest p → Option (Rest p)
   settle sit (goal o) r = cond (reached sit o) none (some tt)

@@ -3,8 +3,8 @@ use Prim.Native.Nat.{ℕ, zero, suc, _≤_, _<_}
 use native.Mathlib.Nat.{zero-add, not-suc-le-zero, le-of-suc-le-suc}
 use native.Mathlib.Omega.{arith}
 use mathlib.Core.Path.{_≡_, refl, _∙_}
-use mathlib.Core.Logic.{_↔_, _≢_, Iff·rfl, Iff·trans, Iff·and}
-use mathlib.Core.Bool.{Bool, true, false, cond, _&&_, _||_, and-eq-true-iff}
+use mathlib.Core.Logic.{_↔_, _≢_, _⊎_, inl, inr, Iff·rfl, Iff·trans, Iff·and}
+use mathlib.Core.Bool.{Bool, true, false, cond, _&&_, _||_, and-eq-true-iff, or-true}
 use mathlib.Core.List.{List, [], _∷_}
 use lib.Dec.{eqb, leb}
 use lib.ListN.{length, getD}
@@ -14,6 +14,17 @@ use Rattle.base.proofs.Lists.{and-left, and-right, length-tabulate, get
 
 pub both : {P Q : Type 0} (a b : Bool) → (a ≡ true) ↔ P → (b ≡ true) ↔ Q → ((a && b) ≡ true) ↔ (P × Q)
 both a b f g = Iff·trans (and-eq-true-iff a b) (Iff·and f g)
+
+pub either : {P Q : Type 0} (a b : Bool) → (a ≡ true) ↔ P → (b ≡ true) ↔ Q → ((a || b) ≡ true) ↔ (P ⊎ Q)
+either {P} {Q} a b f g = (to a f, from)
+  where
+    to : (a : Bool) → (a ≡ true) ↔ P → (a || b) ≡ true → P ⊎ Q
+    to true f h = inl (f .0 refl)
+    to false f h = inr (g .0 h)
+
+    from : P ⊎ Q → (a || b) ≡ true
+    from (inl p) = rw (f .1 p)
+    from (inr q) = rw (g .1 q, or-true a)
 
 pub at-most : (m x : ℕ) → (leb x m ≡ true) ↔ (x ≤ m)
 at-most m x = (leb-true x m, le-leb x m)

@@ -1,5 +1,5 @@
 -- The three demands.
-use Prim.Native.Nat.{ℕ, _+_, _-_, _≤_}
+use Prim.Native.Nat.{ℕ, _+_, _-_}
 use native.Mathlib.Nat.{add-sub-cancel-left}
 use native.Mathlib.Omega.{arith}
 use mathlib.Core.Path.{_≡_, refl, sym, ap, _∙_}
@@ -11,14 +11,13 @@ use lib.ListN.{length, drop}
 use lib.Seq.{sets}
 use borrow.Author.Tests.{ltb-true, leb-true, eqb-true, eqb-false, ne-eqb, not-true}
 use Rattle.base.specs.Lists.{all, flag, firstFailing}
-use Rattle.base.proofs.Facts.{both, at-most, equal, all-facts}
+use Rattle.base.proofs.Facts.{both, equal, all-facts}
 use Rattle.base.proofs.Lists.{and-left, and-right}
 use Rattle.meaning.specs.declared.Form.the-variants.{File}
-use Rattle.meaning.specs.Sizes.{maxValue}
 use Rattle.meaning.specs.Tree.{Part}
 use Rattle.meaning.specs.Program.{variables, clocks, programTests, programRefusal, Within, fileOf}
 use Rattle.meaning.specs.Table.{compiled, compileTests, compileRefusal, compiledInto, fileIn, isTable, decompileTests, decompileRefusal, decompiledInto}
-use Rattle.meaning.specs.Record.{waiting, finished}
+use Rattle.meaning.specs.Record.{estimateByteAllowed, waiting, finished}
 use Rattle.meaning.specs.Cycle.{estimateAllowed, beginTests, beginRefusal, freshRecord, begunInto, offerTests, offerRefusal, offeredName, offeredInto, goalsInto, settleTests, settleRefusal, settledMarks, settledInto, rootEnded}
 use Rattle.meaning.specs.Answers.{answered, answering, notATable}
 use Rattle.meaning.proofs.Answers.{told-refusal, told-given, told-accepted}
@@ -28,7 +27,8 @@ use Rattle.agreement.specs.Calls.{tableIn}
 use Rattle.agreement.proofs.Agreement.{failing-passes, runs-alike}
 use Rattle.agreement.proofs.Operations.{offer-below, settle-below, phase-settled, read-table, operations-agree}
 use Rattle.sentences.specs.Fields.{Bytes}
-use Rattle.sentences.proofs.AllowedRecords.{exactly-allowed}
+use Rattle.sentences.specs.Allowed.{EstimateByte}
+use Rattle.sentences.proofs.AllowedRecords.{estimate-byte, exactly-allowed}
 use Rattle.sentences.proofs.OneTable.{compiling-lays-down}
 use Rattle.sentences.proofs.RoundTrip.{inverses}
 use Rattle.sentences.proofs.Stepping.{beginning-steps, offer-steps, settling-steps}
@@ -127,7 +127,7 @@ demand-1 =
           record {
             files = λ f. Iff·trans (none-failing (programTests File f) refl) (files-allowed f);
             records = exactly-allowed;
-            estimates = λ v est. both (eqb (length est) v) _ (equal v (length est)) (all-facts (λ x. leb x maxValue) (λ x. x ≤ maxValue) (at-most maxValue) est (length est) refl);
+            estimates = λ v est. both (eqb (length est) v) _ (equal v (length est)) (all-facts estimateByteAllowed EstimateByte estimate-byte est (length est) refl);
           };
       compiles =
           λ f out answer out' c.

@@ -10,7 +10,7 @@ use lib.ListN.{length, getD}
 use lib.Seq.{sets}
 use Rattle.base.specs.Lists.{all}
 use Rattle.meaning.specs.declared.Form.the-variants.{File}
-use Rattle.meaning.specs.Sizes.{maxValue, timeLimit}
+use Rattle.meaning.specs.Sizes.{timeLimit}
 use Rattle.meaning.specs.Tree.{Part}
 use Rattle.meaning.specs.Program.{variables, clocks, programTests, programRefusal, Within, fileOf}
 use Rattle.meaning.specs.Table.{compiled, compileTests, fileIn, isTable, decompileTests}
@@ -20,7 +20,7 @@ use Rattle.meaning.specs.Answers.{answered, notATable}
 use Rattle.meaning.specs.Operations.{Compiled, Decompiled, Begun, Offered, Settled}
 use Rattle.agreement.specs.Runs.{Call, Timed, RunsAlike}
 use Rattle.agreement.specs.Calls.{tableIn, OperationsAlike}
-use Rattle.sentences.specs.Allowed.{AllowedRecord}
+use Rattle.sentences.specs.Allowed.{EstimateByte, AllowedRecord}
 use Rattle.sentences.specs.Fields.{Bytes}
 use Rattle.sentences.specs.Rows.{LaidDown}
 use Rattle.sentences.specs.RoundTrip.{Gives, Inverses}
@@ -67,7 +67,7 @@ pub record Allowed : Type 0 where
   -- a file passes 1 to 7 exactly where it is that of a tree within the limits
   pub files : (f : List ℕ) → (all passes (programTests File f) ≡ true) ↔ ((p : Part) × Within (variables f) (clocks f) p × (f ≡ fileOf (variables f) (clocks f) p))
   pub records : (t r : List ℕ) → (recordAllowed t r ≡ true) ↔ AllowedRecord t r
-  pub estimates : (v : ℕ) (est : List ℕ) → (estimateAllowed v est ≡ true) ↔ ((length est ≡ v) × ((i : ℕ) → i < length est → getD est i 0 ≤ maxValue))
+  pub estimates : (v : ℕ) (est : List ℕ) → (estimateAllowed v est ≡ true) ↔ ((length est ≡ v) × ((i : ℕ) → i < length est → EstimateByte (getD est i 0)))
 
 pub record Demand1 : Type 0 where
   pub orders : Orders

@@ -11,7 +11,7 @@ use Rattle.meaning.specs.Tree.{fold, depth, size}
 use Rattle.meaning.specs.Program.{sizesAllowed, entries, entryKnown, entryAllowed, arityOf, makePart, takeChildren, trees, treeOf, programRefusal}
 use Rattle.meaning.specs.Table.{nextOf, block, tableOf, compiled, fileIn, isTable, compileRefusal, compiledInto, decompileRefusal, decompiledInto}
 use Rattle.meaning.specs.Conditions.{outcome, reached, satisfied, violated}
-use Rattle.meaning.specs.Record.{recordBytes, restZero, valuesAllowed, clockAllowed, clocksAllowed, markedChildren, childrenAllowed, partsAllowed, rootAllowed, recordAllowed}
+use Rattle.meaning.specs.Record.{recordBytes, estimateByteAllowed, restZero, valuesAllowed, clockAllowed, clocksAllowed, markedChildren, childrenAllowed, partsAllowed, rootAllowed, recordAllowed}
 use Rattle.meaning.specs.Cycle.{beginsIn, initialMarksFrom, initialMarks, checkedFrom, leavesFrom, valuesFor, goalBytes, lowestContested, transition, applied, settledFrom, clocksAfter, estimateAllowed, freshRecord, beginRefusal, begunInto, offerRefusal, offeredInto, goalsInto, worksFrom, settleRefusal, settledInto}
 
 -- A row: what is computed, and what it comes to
@@ -47,12 +47,12 @@ unfolding compile fileIn isTable decompileRefusal decompiledInto
 decompile t room = decompileRefusal t room
 
 unfoldable pub begin : List ℕ → List ℕ → ℕ → ℕ
-unfolding decompile beginsIn initialMarksFrom initialMarks estimateAllowed recordBytes freshRecord beginRefusal begunInto
+unfolding decompile beginsIn initialMarksFrom initialMarks estimateByteAllowed estimateAllowed recordBytes freshRecord beginRefusal begunInto
 begin t est room = beginRefusal t est room
 
 -- whether a record is allowed
 unfoldable pub allowed : List ℕ → List ℕ → Bool
-unfolding kindOf recordBytes restZero valuesAllowed clockAllowed clocksAllowed markedChildren childrenAllowed partsAllowed rootAllowed recordAllowed
+unfolding kindOf recordBytes restZero estimateByteAllowed valuesAllowed clockAllowed clocksAllowed markedChildren childrenAllowed partsAllowed rootAllowed recordAllowed
 allowed t r = recordAllowed t r
 
 unfoldable pub offer : List ℕ → List ℕ → ℕ → ℕ → ℕ

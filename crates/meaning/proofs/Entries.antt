@@ -1,22 +1,24 @@
 -- What the entries of a table satisfy, and the goal bytes that they give.
 use Prim.Native.Nat.{ℕ, _≤_, _<_}
 use native.Mathlib.Nat.{zero-add}
+use native.Mathlib.Omega.{arith}
 use mathlib.Core.Path.{_≡_, refl, ap, _∙_}
-use mathlib.Core.Bool.{Bool, true, false, cond, _&&_, _||_}
+use mathlib.Core.Bool.{Bool, true, false, cond, not, _&&_, _||_, and-false}
 use mathlib.Core.Logic.{_⊎_, inl, inr}
 use mathlib.Core.List.{List, [], _∷_, _++_}
 use lib.Dec.{eqb, leb, ltb}
 use lib.ListN.{length, getD}
-use borrow.Author.Tests.{eqb-true, leb-true, ltb-true}
+use borrow.Author.Tests.{eqb-true, leb-true, ltb-true, ne-eqb}
 use Rattle.base.specs.Lists.{any}
 use Rattle.base.proofs.Lists.{and-left, and-right, length-tabulate, getD-tabulate, each-tabulated}
 use Rattle.meaning.specs.declared.Operand.{Operand}
 use Rattle.meaning.specs.declared.Entry.{Entry}
 use Rattle.meaning.specs.declared.Form.the-variants.{Table}
-use Rattle.meaning.specs.Sizes.{maxValue}
+use Rattle.meaning.specs.Sizes.{maxValue, unknownValue}
 use Rattle.meaning.specs.Kinds.{GOAL, START, kindOf, numberOf, value, testOf, testAllowed, conditionAllowed, goalAllowed, startAllowed, operandAllowed}
 use Rattle.meaning.specs.Program.{parts, variables, clocks, entryAt, entries, entryAllowed}
 use Rattle.meaning.specs.Table.{isTable}
+use Rattle.meaning.specs.Conditions.{Situation, estimateOf, reached}
 use Rattle.meaning.specs.Cycle.{isKind, givesTo, valuesFor, goalByte, goalBytes}
 use Rattle.meaning.proofs.Tables.{table-held}
 
@@ -39,6 +41,18 @@ goal-fits v k e a g =
     let allowed : (eqb (e .operand .b0) 0 && (ltb (e .operand .b1) v && leb (value (e .operand)) maxValue)) ≡ true = rw is-goal at a in
     let named = and-right (eqb (e .operand .b0) 0) (ltb (e .operand .b1) v && leb (value (e .operand)) maxValue) allowed in
     (ltb-true (e .operand .b1) v (and-left (ltb (e .operand .b1) v) (leb (value (e .operand)) maxValue) named), leb-true (value (e .operand)) maxValue (and-right (ltb (e .operand .b1) v) (leb (value (e .operand)) maxValue) named))
+
+-- and where the estimate's byte is that value, the variable is known: a board that judges a GOAL may compare the two, and ask no more
+pub goal-reached : (v k : ℕ) (sit : Situation) (e : Entry) → entryAllowed v k e ≡ true → isKind GOAL e ≡ true → reached sit (e .operand) ≡ eqb (estimateOf sit (e .operand .b1)) (value (e .operand))
+unfolding reached
+goal-reached v k sit e a g = go (estimateOf sit (e .operand .b1)) (value (e .operand)) (goal-fits v k e a g .1)
+  where
+    go : (x n : ℕ) → n ≤ maxValue → (not (eqb x unknownValue) && eqb x n) ≡ eqb x n
+    go x n fits = by (eqb x n) refl
+      where
+        by : (b : Bool) → eqb x n ≡ b → (not (eqb x unknownValue) && b) ≡ b
+        by true h = rw (ne-eqb x unknownValue (λ u. omega (arith, eqb-true x n h)))
+        by false h = and-false (not (eqb x unknownValue))
 
 -- an allowed START names a clock of the program
 pub start-fits : (v k : ℕ) (e : Entry) → entryAllowed v k e ≡ true → isKind START e ≡ true → e .operand .b1 < k

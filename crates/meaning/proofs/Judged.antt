@@ -10,9 +10,9 @@ use Rattle.meaning.specs.Kinds.{testOf}
 use Rattle.meaning.specs.Conditions.{Situation, outcome, reached}
 use Rattle.meaning.proofs.Computed.{_gets_, Holds}
 
--- Variables that have 0, 1 and 250; clocks of which the first is started at 0, the second at 70,000 and the third not
+-- Variables that have 0, 1 and 250, and one that is unknown; clocks of which the first is started at 0, the second at 70,000 and the third not
 abbrev at : ℕ → Situation
-at time = record { estimate = 0 ∷ 1 ∷ 250 ∷ []; started = 1 ∷ 1 ∷ 0 ∷ []; starts = 0 ∷ 70_000 ∷ 0 ∷ []; time = time }
+at time = record { estimate = 0 ∷ 1 ∷ 250 ∷ 255 ∷ []; started = 1 ∷ 1 ∷ 0 ∷ []; starts = 0 ∷ 70_000 ∷ 0 ∷ []; time = time }
 
 abbrev operand : ℕ → ℕ → ℕ → ℕ → Operand
 operand b0 b1 b2 b3 = record { b0 = b0; b1 = b1; b2 = b2; b3 = b3 }
@@ -35,13 +35,20 @@ pub variable-tests : Holds
 unfolding testOf outcome
 variable-tests = refl
 
--- "A marked GOAL ends when its variable has its value"
+-- "Over an unknown variable it is open" (document 02, R-4), whatever the value: 255 as well, which no condition over a variable names
+pub unknown-tests : (b2 b3 : ℕ) → Holds (variable 1 3 b2 b3 gets Open ∷ variable 2 3 b2 b3 gets Open ∷ [])
+unfolding testOf outcome
+unknown-tests b2 b3 = refl
+
+-- "A marked GOAL ends when its variable has its value"; "a GOAL on an unknown variable is not reached" (document 02, R-4)
 pub goal-tests : Holds
     (reached (at 0) (operand 0 0 0 0) gets true
     ∷ reached (at 0) (operand 0 0 1 0) gets false
     ∷ reached (at 0) (operand 0 0 0 1) gets false
     ∷ reached (at 0) (operand 0 2 250 0) gets true
     ∷ reached (at 0) (operand 0 2 249 0) gets false
+    ∷ reached (at 0) (operand 0 3 250 0) gets false
+    ∷ reached (at 0) (operand 0 3 255 0) gets false
     ∷ [])
 unfolding reached
 goal-tests = refl

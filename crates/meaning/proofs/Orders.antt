@@ -41,12 +41,18 @@ pub decompile-order : Holds
 unfolding decompile
 decompile-order = refl
 
--- "Beginning 9, 13, 8"; "estimate not V bytes, or one above 250"
+-- "Beginning 9, 13, 8"; "estimate not V bytes, or one above 250", but "13 is no longer given" for 255 (document 02, R-4)
 pub beginning-order : Holds
-    (begin no-table (251 ∷ []) 316 gets 9  -- no table, and an estimate above 250
-    ∷ begin goalTable (251 ∷ []) 316 gets 13  -- an estimate above 250, and no room
+    (begin no-table (251 ∷ []) 316 gets 9  -- no table, and an estimate of 251
+    ∷ begin goalTable (251 ∷ []) 316 gets 13  -- an estimate of 251, and no room
     ∷ begin goalTable (250 ∷ []) 316 gets 8
     ∷ begin goalTable (250 ∷ []) 317 gets 0
+    ∷ begin goalTable (251 ∷ []) 317 gets 13
+    ∷ begin goalTable (252 ∷ []) 317 gets 13
+    ∷ begin goalTable (253 ∷ []) 317 gets 13
+    ∷ begin goalTable (254 ∷ []) 317 gets 13
+    ∷ begin goalTable (255 ∷ []) 316 gets 8
+    ∷ begin goalTable (255 ∷ []) 317 gets 0
     ∷ begin goalTable [] 317 gets 13
     ∷ begin goalTable (0 ∷ 0 ∷ []) 317 gets 13
     ∷ [])
@@ -77,12 +83,17 @@ pub settling-order : Holds
     (settle no-table (run 2 1) (251 ∷ []) gets 9  -- no table, and a mark in phase 2
     ∷ settle goalTable (run 2 1) (251 ∷ []) gets 10  -- a mark in phase 2, and the run is finished
     ∷ settle goalTable (take 316 (run 2 0)) (251 ∷ []) gets 10  -- under 317 bytes, and the run is finished
-    ∷ settle goalTable (run 2 0) (251 ∷ []) gets 14  -- the run is finished, and an estimate above 250
-    ∷ settle goalTable (run 0 1) (251 ∷ []) gets 11  -- phase 0, and an estimate above 250
+    ∷ settle goalTable (run 2 0) (251 ∷ []) gets 14  -- the run is finished, and an estimate of 251
+    ∷ settle goalTable (run 0 1) (251 ∷ []) gets 11  -- phase 0, and an estimate of 251
     ∷ settle goalTable (run 1 1) (251 ∷ []) gets 13
     ∷ settle goalTable (run 1 1) [] gets 13
     ∷ settle goalTable (run 1 1) (0 ∷ 0 ∷ []) gets 13
     ∷ settle goalTable (run 1 1) (250 ∷ []) gets 0
+    ∷ settle goalTable (run 1 1) (252 ∷ []) gets 13
+    ∷ settle goalTable (run 1 1) (253 ∷ []) gets 13
+    ∷ settle goalTable (run 1 1) (254 ∷ []) gets 13
+    ∷ settle goalTable (run 1 1) (255 ∷ []) gets 0
+    ∷ settle goalTable (run 0 1) (255 ∷ []) gets 11  -- phase 0, and an unknown variable
     ∷ [])
 unfolding settle
 settling-order = refl

@@ -72,16 +72,20 @@ unfolding decompile
 program-buffers = refl
 
 -- "Phase; last time, 4; estimate, 32; clock started, 16; clock start times, 16 times 4; marks, 200": the record of a run of the first program that
--- has begun; after an offer at a time whose four bytes differ, with some flags and starts; and after a settling, which leaves the GOAL at work
-abbrev begun : List ℕ
-begun =
+-- has begun, with some estimate; after an offer at a time whose four bytes differ, with some flags and starts; and after a settling, which leaves
+-- the GOAL at work
+abbrev begunWith : List ℕ → List ℕ
+begunWith est =
     0
     ∷ 0 ∷ 0 ∷ 0 ∷ 0
-    ∷ 3 ∷ 4 ∷ replicate 30 0
+    ∷ (est ++ replicate 30 0)
     ++ (0 ∷ 0 ∷ replicate 14 0)
     ++ (0 ∷ 0 ∷ 0 ∷ 0 ∷ 0 ∷ 0 ∷ 0 ∷ 0 ∷ replicate 56 0)
     ++ (1 ∷ 1 ∷ 1 ∷ replicate 197 0)
     ++ further
+
+abbrev begun : List ℕ
+begun = begunWith (3 ∷ 4 ∷ [])
 
 abbrev offeredWith : List ℕ → List ℕ → List ℕ
 offeredWith flags starts =
@@ -96,24 +100,27 @@ offeredWith flags starts =
 abbrev offered : List ℕ
 offered = offeredWith (0 ∷ 0 ∷ []) (replicate 8 0)
 
-abbrev settledWith : List ℕ → List ℕ → List ℕ
-settledWith flags starts =
+abbrev settledWith : List ℕ → List ℕ → List ℕ → List ℕ
+settledWith est flags starts =
     0
     ∷ 0x01 ∷ 0x02 ∷ 0x03 ∷ 0x04
-    ∷ 5 ∷ 250 ∷ replicate 30 0
+    ∷ (est ++ replicate 30 0)
     ++ (flags ++ replicate 14 0)
     ++ (starts ++ replicate 56 0)
     ++ (1 ∷ 0 ∷ 1 ∷ replicate 197 0)
     ++ further
 
 -- "A longer buffer's further bytes are untouched"; a refused call changes nothing. "every marked START sets its clock to the cycle's time" (document
--- 02, R-2): clock 1, started before or not, and not clock 0
+-- 02, R-2): clock 1, started before or not, and not clock 0. "Records may hold 255 in the estimate" (document 02, R-4): it is stored as it came
 pub record-bytes : Holds
     (begunInto pairTable (3 ∷ 4 ∷ []) (buffer 317) gets begun
     ∷ offeredInto pairTable begun 0x04030201 2 gets offered
-    ∷ settledInto pairTable offered (5 ∷ 250 ∷ []) gets settledWith (0 ∷ 1 ∷ []) (0 ∷ 0 ∷ 0 ∷ 0 ∷ 0x01 ∷ 0x02 ∷ 0x03 ∷ 0x04 ∷ [])
-    ∷ settledInto pairTable (offeredWith (1 ∷ 1 ∷ []) (5 ∷ 6 ∷ 7 ∷ 0 ∷ 8 ∷ 9 ∷ 10 ∷ 0 ∷ [])) (5 ∷ 250 ∷ []) gets settledWith (1 ∷ 1 ∷ []) (5 ∷ 6 ∷ 7 ∷ 0 ∷ 0x01 ∷ 0x02 ∷ 0x03 ∷ 0x04 ∷ [])
+    ∷ settledInto pairTable offered (5 ∷ 250 ∷ []) gets settledWith (5 ∷ 250 ∷ []) (0 ∷ 1 ∷ []) (0 ∷ 0 ∷ 0 ∷ 0 ∷ 0x01 ∷ 0x02 ∷ 0x03 ∷ 0x04 ∷ [])
+    ∷ settledInto pairTable (offeredWith (1 ∷ 1 ∷ []) (5 ∷ 6 ∷ 7 ∷ 0 ∷ 8 ∷ 9 ∷ 10 ∷ 0 ∷ [])) (5 ∷ 250 ∷ []) gets settledWith (5 ∷ 250 ∷ []) (1 ∷ 1 ∷ []) (5 ∷ 6 ∷ 7 ∷ 0 ∷ 0x01 ∷ 0x02 ∷ 0x03 ∷ 0x04 ∷ [])
+    ∷ begunInto pairTable (255 ∷ 4 ∷ []) (buffer 317) gets begunWith (255 ∷ 4 ∷ [])
+    ∷ settledInto pairTable offered (255 ∷ 255 ∷ []) gets settledWith (255 ∷ 255 ∷ []) (0 ∷ 1 ∷ []) (0 ∷ 0 ∷ 0 ∷ 0 ∷ 0x01 ∷ 0x02 ∷ 0x03 ∷ 0x04 ∷ [])
     ∷ begunInto pairTable (3 ∷ 251 ∷ []) (buffer 317) gets buffer 317  -- 13
+    ∷ settledInto pairTable offered (254 ∷ 255 ∷ []) gets offered  -- 13
     ∷ offeredInto pairTable offered 0x04030201 2 gets offered  -- 11
     ∷ offeredInto pairTable begun 0x04030201 1 gets begun  -- 8
     ∷ settledInto pairTable begun (5 ∷ 250 ∷ []) gets begun  -- 11
@@ -178,11 +185,17 @@ abbrev phased : ℕ → List ℕ → Bool
 phased phase marks = allowed pairTable (recordBytes phase 10 (0 ∷ 0 ∷ []) (0 ∷ 0 ∷ []) (0 ∷ 0 ∷ []) marks)
 
 -- "phase, started flags and marks hold only the values just named; entries beyond V, K and N are 0; estimate values are at most 250; an unstarted
--- clock's time is 0 and a started one's not after the last time"; "or under 317 bytes"
+-- clock's time is 0 and a started one's not after the last time"; "or under 317 bytes"; "Records may hold 255 in the estimate" (document 02, R-4), but
+-- not beyond V
 pub allowed-fields : Holds
     (estimated (250 ∷ 250 ∷ []) gets true
     ∷ estimated (251 ∷ 0 ∷ []) gets false
     ∷ estimated (0 ∷ 251 ∷ []) gets false
+    ∷ estimated (255 ∷ 255 ∷ []) gets true
+    ∷ estimated (254 ∷ 255 ∷ []) gets false
+    ∷ estimated (255 ∷ 254 ∷ []) gets false
+    ∷ estimated (0 ∷ 0 ∷ 255 ∷ []) gets false
+    ∷ estimated (replicate 31 0 ++ (255 ∷ [])) gets false
     ∷ estimated (0 ∷ 0 ∷ 1 ∷ []) gets false
     ∷ estimated (replicate 31 0 ++ (1 ∷ [])) gets false
     ∷ clocked (0 ∷ 0 ∷ []) (0 ∷ 0 ∷ []) gets true

@@ -12,14 +12,14 @@ use borrow.Author.Tests.{le-leb, leb-true, eqb-true}
 use Rattle.base.specs.Lists.{sum, concat, flat, all, tabulate, bytesAt}
 use Rattle.base.proofs.Lists.{and-left, Passed, none-fails, cond-map, cond-same, length-pieces, all-tabulate, all-replicate}
 use Rattle.base.proofs.Stores.{sets-start, drop-front, bytes-front, drop-join, sets-join, bytes-join}
-use Rattle.meaning.specs.Sizes.{maxParts, maxVariables, maxClocks, maxValue, timeWidth, littleEndian, littleEndianValue, byteValues, timeLimit}
+use Rattle.meaning.specs.Sizes.{maxParts, maxVariables, maxClocks, timeWidth, littleEndian, littleEndianValue, byteValues, timeLimit}
 use Rattle.meaning.specs.Program.{parts, variables, clocks}
 use Rattle.meaning.specs.Table.{insideOf, isTable}
 use Rattle.meaning.specs.Conditions.{Situation}
 use Rattle.meaning.specs.declared.Transition.{Transition}
 use Rattle.meaning.specs.declared.Transition.the-variants.{Stays, Ends, First, Second}
 use Rattle.meaning.specs.Cycle.{applied, begins, initialMarksFrom, initialMarks, breaks, checkedFrom, checkedMarks, offeredRecord, leavesFrom, settledFrom, settledMarks, rootEnded, clocksAfter, settledRecord, estimateAllowed, freshRecord, beginTests, beginRefusal, begunInto}
-use Rattle.meaning.specs.Record.{timePlace, estimatePlace, startedPlace, startsPlace, marksPlace, recordLength, timeAt, phaseOf, lastTime, estimateIn, startedIn, startsIn, marksIn, recordBytes, isZero, startedFlag, restZero, valuesAllowed, clockAllowed, clocksAllowed, rootAllowed, partsAllowed, recordAllowed, waiting, offered, finished}
+use Rattle.meaning.specs.Record.{timePlace, estimatePlace, startedPlace, startsPlace, marksPlace, recordLength, timeAt, phaseOf, lastTime, estimateIn, startedIn, startsIn, marksIn, recordBytes, isZero, startedFlag, restZero, estimateByteAllowed, valuesAllowed, clockAllowed, clocksAllowed, rootAllowed, partsAllowed, recordAllowed, waiting, offered, finished}
 use Rattle.meaning.proofs.Tables.{table-held, root-there, root-end}
 use Rattle.meaning.proofs.Clocks.{length-after, each-after}
 
@@ -285,7 +285,7 @@ pub record Allowed (t : List ℕ) (phase time : ℕ) (est started starts marks :
   pub phase-allowed : phase ≤ finished
   pub flags-allowed : all (λ b. leb b 1) started ≡ true
   pub marks-allowed : all (λ b. leb b 1) marks ≡ true
-  pub estimate-allowed : all (λ b. leb b maxValue) est ≡ true
+  pub estimate-allowed : all estimateByteAllowed est ≡ true
   pub clocks-allowed : (c : ℕ) → c < clocks t → clockAllowed time (getD started c 0) (getD starts c 0) ≡ true
   pub root-allowed : rootAllowed phase marks ≡ true
   pub parts-allowed : partsAllowed t phase 0 marks ≡ true
@@ -338,11 +338,11 @@ allowed-long t r h = leb-true recordLength (length r) (and-left (leb recordLengt
 pub still-long : (r s : List ℕ) → recordLength ≤ length r → length s ≡ length r → recordLength ≤ length s
 still-long r s long same = rw same long
 
--- an estimate that is allowed has a value for each variable, none too large
-pub estimate-fits : (t est : List ℕ) → estimateAllowed (variables t) est ≡ true → (length est ≡ variables t) × (all (λ x. leb x maxValue) est ≡ true)
+-- an estimate that is allowed has a byte for each variable, a value or unknown
+pub estimate-fits : (t est : List ℕ) → estimateAllowed (variables t) est ≡ true → (length est ≡ variables t) × (all estimateByteAllowed est ≡ true)
 unfolding estimateAllowed
 estimate-fits t est h =
-    let a = and-eq-true-iff (eqb (length est) (variables t)) (all (λ x. leb x maxValue) est) .0 h in
+    let a = and-eq-true-iff (eqb (length est) (variables t)) (all estimateByteAllowed est) .0 h in
     (eqb-true (length est) (variables t) (a .0), a .1)
 
 -- Beginning a run

@@ -61,7 +61,7 @@ wrongPhase = 11
 abbrev pub timeBeforeLast : ℕ
 timeBeforeLast = 12
 
--- "estimate not V bytes, or one above 250"
+-- "estimate not V bytes, or one above 250"; "13 is no longer given" for 255 (document 02, R-4)
 abbrev pub estimateNotAllowed : ℕ
 estimateNotAllowed = 13
 

@@ -11,12 +11,12 @@ use Rattle.meaning.specs.declared.Entry.{Entry}
 use Rattle.meaning.specs.declared.Form.the-variants.{Table}
 use Rattle.meaning.specs.declared.Transition.{Transition}
 use Rattle.meaning.specs.declared.Transition.the-variants.{Stays, Ends, First, Second}
-use Rattle.meaning.specs.Sizes.{maxValue, timeWidth, noPart, littleEndian}
+use Rattle.meaning.specs.Sizes.{timeWidth, noPart, littleEndian}
 use Rattle.meaning.specs.Kinds.{Kind, UNKNOWN, GOAL, START, WAIT, SEQ, PAR, MAINTAIN, CHOICE, REPEAT, numberOf, value}
 use Rattle.meaning.specs.Program.{variables, clocks, entryAt}
 use Rattle.meaning.specs.Table.{kindAt, operandOf, endAt, parentAt, nextAt, insideOf, isTable}
 use Rattle.meaning.specs.Conditions.{Situation, reached, satisfied, violated}
-use Rattle.meaning.specs.Record.{timePlace, estimatePlace, startedPlace, startsPlace, marksPlace, recordLength, phaseOf, lastTime, estimateIn, startedIn, startsIn, marksIn, waiting, offered, finished, isMark, startedFlag, recordBytes, recordAllowed}
+use Rattle.meaning.specs.Record.{timePlace, estimatePlace, startedPlace, startsPlace, marksPlace, recordLength, phaseOf, lastTime, estimateIn, startedIn, startsIn, marksIn, waiting, offered, finished, isMark, startedFlag, recordBytes, estimateByteAllowed, recordAllowed}
 use Rattle.meaning.specs.Answers.{bufferTooShort, notATable, recordNotAllowed, wrongPhase, timeBeforeLast, estimateNotAllowed, runFinished, nothingAtWork, answering, noVariable}
 
 -- "To initialise is to mark the part and initialise SEQ's first child, all of PAR's, MAINTAIN's and REPEAT's child, and none of CHOICE's":
@@ -45,7 +45,8 @@ initialMarksFrom t p (suc n) (suc skip) = 0 ∷ initialMarksFrom t (suc p) n ski
 unfoldable pub initialMarks : List ℕ → ℕ → List ℕ
 initialMarks t q = 1 ∷ initialMarksFrom t (suc q) (insideOf t q) 0
 
--- Offer. "From the root down, a marked MAINTAIN whose condition is violated by the stored estimate and this time loses every mark inside it and stays marked"
+-- Offer. "From the root down, a marked MAINTAIN whose condition is violated by the stored estimate and this time loses every mark inside it and stays marked";
+-- "an open MAINTAIN goes on" (document 02, R-4)
 abbrev pub isKind : Kind → Entry → Bool
 isKind k e = eqb (e .kind) (numberOf k)
 
@@ -101,7 +102,8 @@ endsIf false = Stays
 
 -- "A marked GOAL ends when its variable has its value, a WAIT when satisfied, a START always"; a deciding CHOICE (document 01's term: marked,
 -- with nothing marked inside) has "its first child initialised if satisfied, else its second"; "Any other marked composite with nothing marked
--- inside after this ends too". `before` and `after` say whether something is marked inside, before and after the settling of what is inside
+-- inside after this ends too". "An open WAIT stays", "an open CHOICE takes its second child" (document 02, R-4). `before` and `after` say whether
+-- something is marked inside, before and after the settling of what is inside
 unfoldable pub transition : Situation → Kind → Operand → Bool → Bool → Transition
 transition sit UNKNOWN o before after = Stays
 transition sit GOAL o before after = endsIf (reached sit o)
@@ -149,9 +151,9 @@ clocksAfter n es x had = tabulate (λ c. cond (any (startsClock c) es) x (getD h
 abbrev pub situation : List ℕ → List ℕ → List ℕ → ℕ → Situation
 situation t r est time = record { estimate = est; started = startedIn t r; starts = startsIn t r; time = time }
 
--- "estimate not V bytes, or one above 250" (refusal 13)
+-- "estimate not V bytes, or one above 250" (refusal 13), but "13 is no longer given" for 255 (document 02, R-4)
 unfoldable pub estimateAllowed : ℕ → List ℕ → Bool
-estimateAllowed v est = eqb (length est) v && all (λ x. leb x maxValue) est
+estimateAllowed v est = eqb (length est) v && all estimateByteAllowed est
 
 -- Beginning a run: "phase 0, last time 0, no clock started, the estimate stored, the root initialised"
 unfoldable pub freshRecord : List ℕ → List ℕ → List ℕ

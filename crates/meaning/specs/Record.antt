@@ -5,7 +5,7 @@ use mathlib.Core.List.{List, [], _∷_, _++_}
 use lib.Dec.{eqb, leb}
 use lib.ListN.{length, getD, take, replicate}
 use Rattle.base.specs.Lists.{all, any, flat, tabulate, flag, bytesAt}
-use Rattle.meaning.specs.Sizes.{maxParts, maxVariables, maxClocks, maxValue, timeWidth, littleEndian, littleEndianValue}
+use Rattle.meaning.specs.Sizes.{maxParts, maxVariables, maxClocks, maxValue, unknownValue, timeWidth, littleEndian, littleEndianValue}
 use Rattle.meaning.specs.Kinds.{Kind, UNKNOWN, GOAL, START, WAIT, SEQ, PAR, MAINTAIN, CHOICE, REPEAT}
 use Rattle.meaning.specs.Program.{parts, variables, clocks}
 use Rattle.meaning.specs.Table.{kindAt, parentAt, insideOf}
@@ -91,13 +91,17 @@ restZero t r =
     && (all isZero (bytesAt r (startsPlace + timeWidth * clocks t) (timeWidth * (maxClocks - clocks t)))
     && all isZero (bytesAt r (marksPlace + parts t) (maxParts - parts t))))
 
--- "phase, started flags and marks hold only the values just named"; "estimate values are at most 250"
+-- "estimate values are at most 250", and "Records may hold 255 in the estimate" (document 02, R-4): a byte that an estimate may have
+unfoldable pub estimateByteAllowed : ℕ → Bool
+estimateByteAllowed b = leb b maxValue || eqb b unknownValue
+
+-- "phase, started flags and marks hold only the values just named"
 unfoldable pub valuesAllowed : List ℕ → List ℕ → Bool
 valuesAllowed t r =
     leb (phaseOf r) finished
     && (all (λ b. leb b 1) (startedIn t r)
     && (all (λ b. leb b 1) (marksIn t r)
-    && all (λ b. leb b maxValue) (estimateIn t r)))
+    && all estimateByteAllowed (estimateIn t r)))
 
 -- "an unstarted clock's time is 0 and a started one's not after the last time"
 unfoldable pub clockAllowed : ℕ → ℕ → ℕ → Bool

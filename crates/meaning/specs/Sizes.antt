@@ -1,4 +1,4 @@
--- The numbers of document 01 that stand for a limit, a width or "none". They stand here alone.
+-- The numbers of the papers that stand for a limit, a width, no part or an unknown variable. They stand here alone.
 use Prim.Native.Nat.{ℕ, zero, suc, _+_, _-_, _*_, _/_, _%_, _^_}
 use mathlib.Core.List.{List, [], _∷_}
 use lib.ListN.{getD}
@@ -22,6 +22,10 @@ maxDepth = 16
 -- the largest value that a variable has, and that a goal or a condition over a variable names
 abbrev pub maxValue : ℕ
 maxValue = 250
+
+-- "Estimate byte 255 now means that the variable is unknown" (document 02, R-4)
+abbrev pub unknownValue : ℕ
+unknownValue = 255
 
 -- How many values a byte has
 abbrev pub byteValues : ℕ

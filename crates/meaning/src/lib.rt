@@ -39,7 +39,7 @@ pub struct Entry {
 }
 
 // What a condition comes to: satisfied, violated (document 01's term: its opposite is satisfied), or
-// neither.
+// open (document 02's: neither).
 pub enum Outcome {
     Satisfied,
     Violated,

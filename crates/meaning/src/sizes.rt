@@ -1,5 +1,5 @@
-// The numbers of document 01 that stand for a limit, a width or "none", and the lengths and places that
-// follow from them; the definitions have theirs in specs/Sizes.antt and specs/Record.antt, and the
+// The numbers of the papers that stand for a limit, a width, "none" or "unknown", and the lengths and
+// places that follow from them; the definitions have theirs in specs/Sizes.antt and specs/Record.antt, and the
 // proofs hold the two together.
 
 pub const MAX_PARTS: u8 = 200;
@@ -11,6 +11,9 @@ pub const MAX_CLOCKS: u8 = 16;
 pub const MAX_DEPTH: u8 = 16;
 
 pub const MAX_VALUE: u16 = 250;
+
+// The byte of an estimate that is no value: the variable is unknown.
+pub const UNKNOWN_VALUE: u8 = 255;
 
 // How many values a byte has.
 pub const BYTE_VALUES: u32 = 256;

@@ -12,30 +12,41 @@ use Rattle.base.specs.Lists.{all, allFrom, bytesAt, tabulate}
 use Rattle.base.proofs.Lists.{both-true, getD-tabulate}
 use Rattle.base.proofs.Loops.{all-next}
 use Rattle.base.proofs.Stores.{getD-bytes, bytes-all}
-use Rattle.meaning.specs.Sizes.{timeWidth, maxVariables, maxClocks, maxParts, maxValue}
+use Rattle.meaning.specs.Sizes.{timeWidth, maxVariables, maxClocks, maxParts}
 use Rattle.meaning.specs.Program.{parts, variables, clocks}
 use Rattle.meaning.specs.Table.{isTable}
-use Rattle.meaning.specs.Record.{estimatePlace, startedPlace, startsPlace, marksPlace, recordLength, timeAt, phaseOf, finished, lastTime, startedIn, startsIn, isZero, restZero, valuesAllowed, clockAllowed, clocksAllowed}
+use Rattle.meaning.specs.Record.{estimatePlace, startedPlace, startsPlace, marksPlace, recordLength, timeAt, phaseOf, finished, lastTime, startedIn, startsIn, isZero, restZero, estimateByteAllowed, valuesAllowed, clockAllowed, clocksAllowed}
 use Rattle.meaning.specs.Cycle.{estimateAllowed}
 use Rattle.meaning.proofs.Tables.{table-held}
 use Rattle.run_record.proofs.Marks.{marks-inside}
-use Rattle.run_allowed.specs.Places.{atMost, clockAt}
+use Rattle.run_allowed.specs.Places.{atMost, estimateAt, clockAt}
 
 pub byte-next : (r : List ℕ) (most i e : ℕ) (a x : Bool) → i < e → (a && allFrom (atMost r most) i (e - i)) ≡ x → ((a && leb (getD r i 0) most) && allFrom (atMost r most) (i + 1) (e - (i + 1))) ≡ x
 unfolding atMost
 byte-next r most i e a x h inv = all-next (atMost r most) i e a (leb (getD r i 0) most) x h refl inv
 
--- bytes that are all at most a number, and bytes that are all 0
+pub estimate-next : (r : List ℕ) (i e : ℕ) (a b x : Bool) → i < e → b ≡ estimateByteAllowed (getD r i 0) → (a && allFrom (estimateAt r) i (e - i)) ≡ x → ((a && b) && allFrom (estimateAt r) (i + 1) (e - (i + 1))) ≡ x
+unfolding estimateAt
+estimate-next r i e a b x h b-is inv = all-next (estimateAt r) i e a b x h b-is inv
+
+-- bytes of which each passes a test, at their places and as a list: all at most a number, all of an estimate, all 0
 leb-zero : (b : ℕ) → leb b 0 ≡ eqb b 0
 leb-zero b =
     both-true (leb b 0) (eqb b 0)
     (λ h. eq-eqb b 0 (omega (arith, leb-true b 0 h)))
     (λ h. le-leb b 0 (omega (arith, eqb-true b 0 h)))
 
+by-place : (f : ℕ → Bool) (r : List ℕ) (i n : ℕ) → allFrom (λ j. f (getD r j 0)) i n ≡ all f (bytesAt r i n)
+by-place f r i zero = refl
+by-place f r i (suc n) = rw (by-place f r (suc i) n)
+
 at-most-bytes : (r : List ℕ) (most i n : ℕ) → allFrom (atMost r most) i n ≡ all (λ b. leb b most) (bytesAt r i n)
 unfolding atMost
-at-most-bytes r most i zero = refl
-at-most-bytes r most i (suc n) = rw (at-most-bytes r most (suc i) n)
+at-most-bytes r most = by-place (λ b. leb b most) r
+
+allowed-bytes : (r : List ℕ) (i n : ℕ) → allFrom (estimateAt r) i n ≡ all estimateByteAllowed (bytesAt r i n)
+unfolding estimateAt
+allowed-bytes r = by-place estimateByteAllowed r
 
 pub zero-bytes : (r : List ℕ) (i n : ℕ) (b : Bool) → b ≡ allFrom (atMost r 0) i n → b ≡ all isZero (bytesAt r i n)
 unfolding atMost
@@ -60,13 +71,13 @@ module _ (t r : List ℕ) (v k n v₁ k₁ n₁ : ℕ) (v₁-is : v₁ ≡ varia
       let w : recordLength - (marksPlace + n) ≡ maxParts - n = omega arith in
       rw (a-is, b-is, c-is, d-is, x, y, z, w, v-is, v₁-is, k-is, k₁-is, n-is, n₁-is)
 
-  pub values-made : (phase : ℕ) (b c d : Bool) → phase ≡ phaseOf r → b ≡ allFrom (atMost r 1) startedPlace (startedPlace + k - startedPlace) → c ≡ allFrom (atMost r 1) marksPlace (marksPlace + n - marksPlace) → d ≡ allFrom (atMost r maxValue) estimatePlace (estimatePlace + v - estimatePlace) → (leb phase finished && (b && (c && d))) ≡ valuesAllowed t r
+  pub values-made : (phase : ℕ) (b c d : Bool) → phase ≡ phaseOf r → b ≡ allFrom (atMost r 1) startedPlace (startedPlace + k - startedPlace) → c ≡ allFrom (atMost r 1) marksPlace (marksPlace + n - marksPlace) → d ≡ allFrom (estimateAt r) estimatePlace (estimatePlace + v - estimatePlace) → (leb phase finished && (b && (c && d))) ≡ valuesAllowed t r
   unfolding valuesAllowed
   values-made phase b c d phase-is b-is c-is d-is =
       let x : startedPlace + k - startedPlace ≡ k = omega arith in
       let y : marksPlace + n - marksPlace ≡ n = omega arith in
       let z : estimatePlace + v - estimatePlace ≡ v = omega arith in
-      rw (phase-is, b-is, c-is, d-is, x, y, z, at-most-bytes r 1 startedPlace k, at-most-bytes r 1 marksPlace n, at-most-bytes r maxValue estimatePlace v, v-is, v₁-is, k-is, k₁-is, n-is, n₁-is)
+      rw (phase-is, b-is, c-is, d-is, x, y, z, at-most-bytes r 1 startedPlace k, at-most-bytes r 1 marksPlace n, allowed-bytes r estimatePlace v, v-is, v₁-is, k-is, k₁-is, n-is, n₁-is)
 
 -- an estimate, at the number of variables that was read, as a byte and then as a number that indexes
 module _ (t est : List ℕ) (v v₁ : ℕ) (v₁-is : v₁ ≡ variables t) (v-is : v ≡ v₁) where
@@ -74,10 +85,10 @@ module _ (t est : List ℕ) (v v₁ : ℕ) (v₁-is : v₁ ≡ variables t) (v-i
   unfolding estimateAllowed
   estimate-other h = rw (ne-eqb (length est) (variables t) (λ e. h (e ∙ sym (v-is ∙ v₁-is))))
 
-  pub estimate-made : (b : Bool) → length est ≡ v → b ≡ allFrom (atMost est maxValue) 0 (v - 0) → b ≡ estimateAllowed (variables t) est
+  pub estimate-made : (b : Bool) → length est ≡ v → b ≡ allFrom (estimateAt est) 0 (v - 0) → b ≡ estimateAllowed (variables t) est
   unfolding estimateAllowed
   estimate-made b h b-is =
-      rw (b-is, sub-zero, at-most-bytes est maxValue 0 v, ← h, bytes-all est, eq-eqb (length est) (variables t) (h ∙ v-is ∙ v₁-is))
+      rw (b-is, sub-zero, allowed-bytes est 0 v, ← h, bytes-all est, eq-eqb (length est) (variables t) (h ∙ v-is ∙ v₁-is))
 
 -- a clock by what its flag says
 module _ (r : List ℕ) (c start : ℕ) (b : Bool) (start-is : start ≡ timeAt r (startsPlace + timeWidth * c)) (b-is : b ≡ not (eqb (getD r (startedPlace + c) 0) 0)) where

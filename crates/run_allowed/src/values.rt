@@ -11,6 +11,7 @@ use meaning::sizes::STARTED;
 use meaning::sizes::STARTED_PLACE;
 use meaning::sizes::STARTS_PLACE;
 use meaning::sizes::TIME;
+use meaning::sizes::UNKNOWN_VALUE;
 use program_part::layout::clocks;
 use program_part::layout::parts;
 use program_part::layout::variables;
@@ -26,9 +27,9 @@ ghost use Rattle.base.specs.Lists.{all, allFrom, bytesAt};
 ghost use Rattle.meaning.specs.Sizes.{maxClocks};
 ghost use Rattle.meaning.specs.Program.{variables};
 ghost use Rattle.meaning.specs.Table.{isTable};
-ghost use Rattle.meaning.specs.Record.{recordLength, isZero, restZero, valuesAllowed, clocksAllowed};
+ghost use Rattle.meaning.specs.Record.{recordLength, isZero, restZero, estimateByteAllowed, valuesAllowed, clocksAllowed};
 ghost use Rattle.meaning.specs.Cycle.{estimateAllowed};
-ghost use Rattle.run_allowed.specs.Places.{atMost, clockAt};
+ghost use Rattle.run_allowed.specs.Places.{atMost, estimateAt, clockAt};
 
 // Whether the bytes from place `from` on, before place `to`, are at most `most`; there are none
 // where `to` is not beyond `from`. It looks at all of them even where one is larger, so that the
@@ -50,6 +51,26 @@ fn all_zero(r: &[u8], from: usize, to: usize) -> bool
     ensures { λ b. ⌜ b ≡ all isZero (bytesAt (now (r .entry)) from (to - from)) ⌝ }
 {
     all_at_most(r, from, to, 0)
+}
+
+// Whether a byte of an estimate is a value or says that the variable is unknown.
+fn estimate_byte_allowed(b: u8) -> bool
+    ensures { λ x. ⌜ x ≡ estimateByteAllowed b ⌝ }
+{
+    (b <= (MAX_VALUE as u8)) | (b == UNKNOWN_VALUE)
+}
+
+// Whether the bytes from place `from` on, before place `to`, are such bytes. It looks at all of them,
+// as `all_at_most` does.
+fn estimate_bytes_allowed(s: &[u8], from: usize, to: usize) -> bool
+    requires { ⌜ to ≤ length (now s) ⌝ }
+    ensures { λ b. ⌜ b ≡ allFrom (estimateAt (now (s .entry))) from (to - from) ⌝ }
+{
+    let mut all = true;
+    for i in from..to {
+        all = all & estimate_byte_allowed(s[i]);
+    }
+    all
 }
 
 // Whether the entries beyond the program's variables, clocks and parts are 0. Each field's room ends
@@ -79,10 +100,10 @@ pub fn values_allowed(t: &[u8], r: &[u8]) -> bool
     (phase(r) <= FINISHED)
         & (all_at_most(r, STARTED_PLACE, STARTED_PLACE + k, STARTED)
             & (all_at_most(r, MARKS_PLACE, MARKS_PLACE + n, MARKED)
-                & all_at_most(r, ESTIMATE_PLACE, ESTIMATE_PLACE + v, MAX_VALUE as u8)))
+                & estimate_bytes_allowed(r, ESTIMATE_PLACE, ESTIMATE_PLACE + v)))
 }
 
-// Whether the estimate has a value for each of the program's variables, and none too large (13).
+// Whether the estimate has a byte for each of the program's variables, each a value or unknown (13).
 pub fn estimate_allowed(t: &[u8], est: &[u8]) -> bool
     ensures { λ b. ⌜ b ≡ estimateAllowed (variables (now (t .entry))) (now (est .entry)) ⌝ }
 {
@@ -90,7 +111,7 @@ pub fn estimate_allowed(t: &[u8], est: &[u8]) -> bool
     if est.len() != v {
         return false;
     }
-    all_at_most(est, 0, v, MAX_VALUE as u8)
+    estimate_bytes_allowed(est, 0, v)
 }
 
 // Whether clock c's start time is not after the last time where it is started, and 0 where not.

@@ -11,7 +11,7 @@ use meaning::kinds::REPEAT;
 use meaning::kinds::SEQ;
 use meaning::kinds::START;
 use meaning::kinds::WAIT;
-use run_record::conditions::reached;
+use run_record::conditions::has_value;
 use run_record::conditions::satisfied;
 use run_record::fields::last_time;
 ghost use mathlib.Core.Path.{_≡_};
@@ -72,7 +72,7 @@ pub fn transition(
     let kind = part.kind;
     let operand = part.operand;
     match kind {
-        GOAL => ends_if(reached(est, operand)),
+        GOAL => ends_if(has_value(est, operand)),
         START => Transition::Ends,
         WAIT => ends_if(satisfied(t, r, est, last_time(r), operand)),
         SEQ => ends_if(!after),

@@ -8,22 +8,32 @@ use meaning::kinds::AT_LEAST;
 use meaning::kinds::BELOW;
 use meaning::kinds::DIFFERS;
 use meaning::kinds::EQUALS;
+use meaning::sizes::UNKNOWN_VALUE;
 use program_part::kinds::value;
 ghost use mathlib.Core.Path.{_≡_};
-ghost use mathlib.Core.Bool.{true, cond, not};
+ghost use mathlib.Core.Bool.{true, not};
 ghost use Prim.Native.Nat.{_+_, _-_, _*_, _<_, _≤_};
 ghost use lib.Dec.{eqb, leb, ltb};
 ghost use lib.ListN.{length, getD};
-ghost use Rattle.meaning.specs.declared.Outcome.the-variants.{Open};
-ghost use Rattle.meaning.specs.Sizes.{maxClocks, timeWidth};
+ghost use Rattle.meaning.specs.Sizes.{unknownValue, maxClocks, timeWidth};
 ghost use Rattle.meaning.specs.Kinds.{value, conditionAllowed};
 ghost use Rattle.meaning.specs.Program.{variables, clocks};
-ghost use Rattle.meaning.specs.Record.{startedPlace, startsPlace, recordLength, timeAt};
-ghost use Rattle.meaning.specs.Conditions.{decided, outcome, isSatisfied, isViolated, satisfied};
+ghost use Rattle.meaning.specs.Record.{startsPlace, recordLength, timeAt};
+ghost use Rattle.meaning.specs.Conditions.{decided, openUnless, outcome, isSatisfied, isViolated, satisfied};
 ghost use Rattle.meaning.specs.Cycle.{situation};
 
-// Whether the operand's variable has its value: what ends a GOAL, and test 1.
-pub fn reached(est: &[u8], o: Operand) -> bool
+// Whether the variable is known.
+fn is_known(est: &[u8], v: u8) -> bool
+    requires { ⌜ v < length (now est) ⌝ }
+    ensures { λ b. ⌜ b ≡ not (eqb (getD (now (est .entry)) v 0) unknownValue) ⌝ }
+{
+    est[wide(v)] != UNKNOWN_VALUE
+}
+
+// Whether the operand's variable has its value: what ends a GOAL, and what tests 1 and 2 ask of a
+// variable that is known. No GOAL of a program has the number that stands for an unknown variable as
+// its value, so that a GOAL need not ask whether its variable is known.
+pub fn has_value(est: &[u8], o: Operand) -> bool
     requires { ⌜ o .b1 < length (now est) ⌝ }
     ensures { λ b. ⌜ b ≡ eqb (getD (now (est .entry)) (o .b1) 0) (value o) ⌝ }
 {
@@ -66,14 +76,12 @@ fn decided(b: bool) -> Outcome
     }
 }
 
-// A test of clock c that came out as b: open where the clock is not started.
-fn on_clock(r: &[u8], c: u8, b: bool) -> Outcome
-    requires { ⌜ recordLength ≤ length (now r) ⌝ }
-    requires { ⌜ c < maxClocks ⌝ }
-    ensures { λ x. ⌜ x ≡ cond (not (eqb (getD (now (r .entry)) (startedPlace + c) 0) 0)) (decided b) Open ⌝ }
+// A test that came out as b, of a variable that is known or a clock that is started; open where it is
+// not.
+fn open_unless(testable: bool, b: bool) -> Outcome
+    ensures { λ x. ⌜ x ≡ openUnless testable b ⌝ }
 {
-    let started = is_started(r, c);
-    if started { decided(b) } else { Outcome::Open }
+    if testable { decided(b) } else { Outcome::Open }
 }
 
 // What a condition of the table's program comes to. The table is not read: it says which variables and
@@ -87,10 +95,10 @@ pub fn outcome(t: &[u8], r: &[u8], est: &[u8], time: u32, o: Operand) -> Outcome
 {
     let test = o.b0;
     match test {
-        EQUALS => decided(reached(est, o)),
-        DIFFERS => decided(!reached(est, o)),
-        AT_LEAST => on_clock(r, o.b1, at_least(r, time, o)),
-        BELOW => on_clock(r, o.b1, below(r, time, o)),
+        EQUALS => open_unless(is_known(est, o.b1), has_value(est, o)),
+        DIFFERS => open_unless(is_known(est, o.b1), !has_value(est, o)),
+        AT_LEAST => open_unless(is_started(r, o.b1), at_least(r, time, o)),
+        BELOW => open_unless(is_started(r, o.b1), below(r, time, o)),
         _ => Outcome::Open,
     }
 }

@@ -11,19 +11,24 @@ use lib.ListN.{length, getD, take, drop, length-take, length-drop}
 use lib.Seq.{getD-take, getD-drop}
 use borrow.Author.Tests.{leb-true, leb-false, ne-eqb}
 use Rattle.base.specs.Lists.{sum, all, any, flag, bytesAt}
-use Rattle.base.proofs.Facts.{both, at-most, equal, by-number, unless, all-facts, all-below, getD-inside}
+use Rattle.base.proofs.Facts.{both, either, at-most, equal, by-number, unless, all-facts, all-below, getD-inside}
 use Rattle.base.proofs.Lists.{and-left, and-right}
 use Rattle.base.proofs.Stores.{length-bytes, getD-bytes}
-use Rattle.meaning.specs.Sizes.{maxParts, maxVariables, maxClocks, maxValue, timeWidth, noPart}
+use Rattle.meaning.specs.Sizes.{maxParts, maxVariables, maxClocks, maxValue, unknownValue, timeWidth, noPart}
 use Rattle.meaning.specs.Kinds.{Kind, UNKNOWN, GOAL, START, WAIT, SEQ, PAR, MAINTAIN, CHOICE, REPEAT}
 use Rattle.meaning.specs.Program.{parts, variables, clocks}
 use Rattle.meaning.specs.Table.{kindAt, parentAt, endAt, insideOf, isTable}
-use Rattle.meaning.specs.Record.{estimatePlace, startedPlace, startsPlace, marksPlace, recordLength, phaseOf, lastTime, estimateIn, startedIn, startsIn, marksIn, offered, finished, isMark, isZero, restZero, valuesAllowed, clockAllowed, clocksAllowed, markedChildren, childrenAllowed, partAllowed, partsAllowed, rootAllowed, recordAllowed}
+use Rattle.meaning.specs.Record.{estimatePlace, startedPlace, startsPlace, marksPlace, recordLength, phaseOf, lastTime, estimateIn, startedIn, startsIn, marksIn, offered, finished, isMark, isZero, restZero, estimateByteAllowed, valuesAllowed, clockAllowed, clocksAllowed, markedChildren, childrenAllowed, partAllowed, partsAllowed, rootAllowed, recordAllowed}
 use Rattle.meaning.specs.Tree.{Part, goal, start, wait, seq, par, maintain, choice, repeat, kind, children, size}
-use Rattle.sentences.specs.Allowed.{PartMarked, PartUnmarked, Child, MarkedChild, SomeChild, NoTwoChildren, OneChild, AllowedRecord}
+use Rattle.sentences.specs.Allowed.{PartMarked, PartUnmarked, Child, MarkedChild, SomeChild, NoTwoChildren, OneChild, EstimateByte, AllowedRecord}
 use Rattle.meaning.proofs.Trees.{All, part-ind, size-law}
 use Rattle.meaning.proofs.Tables.{table-held}
 use Rattle.meaning.proofs.Lies.{Lies, LieIn, own-row, own-kind, children-lie, first-lies, others-lie, root-lies}
+
+-- a byte is one of an estimate where it is a value or unknown
+pub estimate-byte : (x : ℕ) → (estimateByteAllowed x ≡ true) ↔ EstimateByte x
+unfolding estimateByteAllowed
+estimate-byte x = either (leb x maxValue) (eqb x unknownValue) (at-most maxValue x) (equal unknownValue x)
 
 -- a number is a mark where it is not 0
 more-than-zero : (x : ℕ) → isZero (suc x) ≡ false
@@ -333,15 +338,15 @@ module _ (t r : List ℕ) where
 
   values-right : (valuesAllowed t r ≡ true)
       ↔ ((phaseOf r ≤ finished)
-      × (((c : ℕ) → c < clocks t → getD (startedIn t r) c 0 ≤ 1) × (((p : ℕ) → p < parts t → getD (marksIn t r) p 0 ≤ 1) × ((v : ℕ) → v < variables t → getD (estimateIn t r) v 0 ≤ maxValue))))
+      × (((c : ℕ) → c < clocks t → getD (startedIn t r) c 0 ≤ 1) × (((p : ℕ) → p < parts t → getD (marksIn t r) p 0 ≤ 1) × ((v : ℕ) → v < variables t → EstimateByte (getD (estimateIn t r) v 0)))))
   unfolding valuesAllowed
   values-right =
       both (leb (phaseOf r) finished) _ (at-most finished (phaseOf r))
-      (both (all (λ b. leb b 1) (startedIn t r)) _ (small 1 startedPlace (clocks t))
-      (both (all (λ b. leb b 1) (marksIn t r)) _ (small 1 marksPlace (parts t)) (small maxValue estimatePlace (variables t))))
+      (both (all (λ b. leb b 1) (startedIn t r)) _ (flags startedPlace (clocks t))
+      (both (all (λ b. leb b 1) (marksIn t r)) _ (flags marksPlace (parts t)) (all-facts estimateByteAllowed EstimateByte estimate-byte (estimateIn t r) (variables t) (length-bytes r estimatePlace (variables t)))))
     where
-      small : (m k n : ℕ) → (all (λ b. leb b m) (bytesAt r k n) ≡ true) ↔ ((i : ℕ) → i < n → getD (bytesAt r k n) i 0 ≤ m)
-      small m k n = all-facts (λ b. leb b m) (λ x. x ≤ m) (at-most m) (bytesAt r k n) n (length-bytes r k n)
+      flags : (k n : ℕ) → (all (λ b. leb b 1) (bytesAt r k n) ≡ true) ↔ ((i : ℕ) → i < n → getD (bytesAt r k n) i 0 ≤ 1)
+      flags k n = all-facts (λ b. leb b 1) (λ x. x ≤ 1) (at-most 1) (bytesAt r k n) n (length-bytes r k n)
 
   pub rest-right : (restZero t r ≡ true)
       ↔ (((i : ℕ) → variables t ≤ i → i < maxVariables → getD r (estimatePlace + i) 0 ≡ 0)
@@ -391,7 +396,7 @@ module _ (t r : List ℕ) where
               beyond-clock-flags = rest .1 .0;
               beyond-clock-starts = rest .1 .1 .0;
               beyond-parts = rest .1 .1 .1;
-              estimate-small = values .1 .1 .1;
+              estimate-bytes = values .1 .1 .1;
               unstarted-zero = λ c l. clock c l .0;
               started-before = λ c l. clock c l .1;
               finished-blank = root .0;
@@ -409,7 +414,7 @@ module _ (t r : List ℕ) where
               (
                 (a .beyond-variables, (a .beyond-clock-flags, (a .beyond-clock-starts, a .beyond-parts))),
                 (
-                  (a .phase-named, (a .flags-named, (a .marks-named, a .estimate-small))),
+                  (a .phase-named, (a .flags-named, (a .marks-named, a .estimate-bytes))),
                   (
                     λ c l. (a .unstarted-zero c l, a .started-before c l),
                     ((a .finished-blank, a .root-marked), λ p l. (λ m. children-by a p l m (kindAt t p) refl, λ u q. a .nothing-inside p q l u)),

@@ -2,21 +2,22 @@
 use Prim.Native.Nat.{ℕ, zero, suc, _≤_, _<_}
 use native.Mathlib.Nat.{eq-zero-or-pos}
 use native.Mathlib.Omega.{arith}
-use mathlib.Core.Path.{_≡_, refl, _∙_}
-use mathlib.Core.Logic.{_↔_, _⊎_, inl, inr, Iff·rfl, Iff·trans, Iff·and}
+use mathlib.Core.Path.{_≡_, refl, sym, ap}
+use mathlib.Core.Logic.{_↔_, _≢_, _⊎_, inl, inr, Iff·rfl, Iff·trans, Iff·and}
 use mathlib.Core.Bool.{Bool, true, false, not, false≢true, Bool·not-not}
 use mathlib.Core.List.{List}
 use lib.Dec.{eqb, leb, ltb}
 use lib.ListN.{getD}
-use borrow.Author.Tests.{eqb-false, leb-true, leb-false, lt-ltb, le-ltb, ltb-true, ne-eqb, not-true}
+use borrow.Author.Tests.{eqb-false, leb-true, leb-false, lt-ltb, le-ltb, ltb-true, ne-eqb, not-true, not-false}
 use Rattle.base.proofs.Facts.{at-most, equal, getD-inside}
 use Rattle.base.proofs.Stores.{length-bytes}
 use Rattle.meaning.specs.declared.Operand.{Operand}
 use Rattle.meaning.specs.declared.Outcome.{Outcome}
 use Rattle.meaning.specs.declared.Outcome.the-variants.{Satisfied, Violated, Open}
+use Rattle.meaning.specs.Sizes.{unknownValue}
 use Rattle.meaning.specs.Kinds.{Test, UNTESTED, EQUALS, DIFFERS, AT-LEAST, BELOW, testOf, value, testAllowed, conditionAllowed}
 use Rattle.meaning.specs.Program.{clocks}
-use Rattle.meaning.specs.Conditions.{Situation, estimateOf, isStarted, reading, decided, onClock, tested, isSatisfied, isViolated, outcome, satisfied, violated}
+use Rattle.meaning.specs.Conditions.{Situation, estimateOf, isKnown, isStarted, reading, decided, openUnless, tested, isSatisfied, isViolated, outcome, satisfied, violated}
 use Rattle.meaning.specs.Record.{lastTime, estimateIn, startedIn, startedPlace, recordAllowed}
 use Rattle.meaning.specs.Cycle.{situation, offerRefusal, settleRefusal}
 use Rattle.meaning.proofs.Refusals.{offer-tests, settle-tests}
@@ -41,18 +42,14 @@ test-back DIFFERS = refl
 test-back AT-LEAST = refl
 test-back BELOW = refl
 
--- what a decision says: it is for or against
+-- what a decision says
 for-is : (b : Bool) → isSatisfied (decided b) ≡ b
 for-is true = refl
 for-is false = refl
 
-against-is : (b : Bool) → isViolated (decided b) ≡ not (isSatisfied (decided b))
+against-is : (b : Bool) → isViolated (decided b) ≡ not b
 against-is true = refl
 against-is false = refl
-
--- the opposite decision
-decided-not : (b : Bool) → isViolated (decided b) ≡ isSatisfied (decided (not b))
-decided-not b = against-is b ∙ rw (for-is b, for-is (not b))
 
 -- a number is at least another, or below it
 at-least-not : (n x : ℕ) → ltb x n ≡ not (leb n x)
@@ -62,31 +59,51 @@ at-least-not n x = go (leb n x) refl
     go true e = le-ltb x n (leb-true n x e)
     go false e = lt-ltb x n (leb-false n x e)
 
-module _ (sit : Situation) where
-  -- opposite decisions over a clock
-  on-clock-not : (c : ℕ) (a b : Bool) → b ≡ not a → isViolated (onClock sit c a) ≡ isSatisfied (onClock sit c b)
-  on-clock-not c a b e = go (isStarted sit c) refl
-    where
-      go : (s : Bool) → isStarted sit c ≡ s → isViolated (onClock sit c a) ≡ isSatisfied (onClock sit c b)
-      go true h = rw (h, e) (decided-not a)
-      go false h = rw h
+-- what a test answers: satisfied where the variable or clock can be tested and the test came out so, the opposite where it came out otherwise, and open
+-- where the variable or clock cannot be tested
+satisfied-where : (k b : Bool) → (isSatisfied (openUnless k b) ≡ true) ↔ ((k ≡ true) × (b ≡ true))
+satisfied-where true b = rw (for-is b) (λ e. (refl, e), λ x. x .1)
+satisfied-where false b = (λ e. absurd (false≢true e), λ x. absurd (false≢true (x .0)))
 
+opposite-where : (k a b : Bool) → b ≡ not a → isViolated (openUnless k a) ≡ isSatisfied (openUnless k b)
+opposite-where true a b e = rw (against-is a, for-is b, e)
+opposite-where false a b e = refl
+
+open-where : (k b : Bool) → (openUnless k b ≡ Open) ↔ (k ≡ false)
+open-where true true = (λ e. absurd (false≢true (sym (ap isSatisfied e))), λ e. absurd (false≢true (sym e)))
+open-where true false = (λ e. absurd (false≢true (sym (ap isViolated e))), λ e. absurd (false≢true (sym e)))
+open-where false b = (λ e. refl, λ e. refl)
+
+-- one of three
+not-both : (x : Outcome) → isSatisfied x ≡ true → isViolated x ≡ false
+not-both Satisfied e = refl
+not-both Violated e = absurd (false≢true e)
+not-both Open e = refl
+
+neither-is : (x : Outcome) → (x ≡ Open) ↔ ((isSatisfied x ≡ false) × (isViolated x ≡ false))
+neither-is Satisfied = (λ e. absurd (false≢true (sym (ap isSatisfied e))), λ h. absurd (false≢true (sym (h .0))))
+neither-is Violated = (λ e. absurd (false≢true (sym (ap isViolated e))), λ h. absurd (false≢true (sym (h .1))))
+neither-is Open = (λ e. (refl, refl), λ h. refl)
+
+-- a variable cannot be tested where its byte says that it is unknown
+unknown-is : (sit : Situation) (v : ℕ) → (isKnown sit v ≡ false) ↔ (estimateOf sit v ≡ unknownValue)
+unknown-is sit v =
+    let x : ℕ = estimateOf sit v in
+    (λ h. equal unknownValue x .0 (not-false (eqb x unknownValue) h), λ e. rw (equal unknownValue x .1 e))
+
+-- two numbers differ
+differ : (n x : ℕ) → (not (eqb x n) ≡ true) ↔ (x ≢ n)
+differ n x = (λ e. eqb-false x n (not-true (eqb x n) e), λ d. rw (ne-eqb x n d))
+
+module _ (sit : Situation) where
   -- a test is violated where the opposite test is satisfied
   tested-opposite : (x : Test) (i n : ℕ) → isViolated (tested sit x i n) ≡ isSatisfied (tested sit (opposite x) i n)
   unfolding opposite
   tested-opposite UNTESTED i n = refl
-  tested-opposite EQUALS i n = decided-not (eqb (estimateOf sit i) n)
-  tested-opposite DIFFERS i n = decided-not (not (eqb (estimateOf sit i) n)) ∙ rw (Bool·not-not (eqb (estimateOf sit i) n))
-  tested-opposite AT-LEAST i n = on-clock-not i (leb n (reading sit i)) (ltb (reading sit i) n) (at-least-not n (reading sit i))
-  tested-opposite BELOW i n = on-clock-not i (ltb (reading sit i) n) (leb n (reading sit i)) (rw (at-least-not n (reading sit i), Bool·not-not (leb n (reading sit i))))
-
-  -- a decision over a clock is for where the clock is started
-  clock-is : (c : ℕ) (b : Bool) → (isSatisfied (onClock sit c b) ≡ true) ↔ ((isStarted sit c ≡ true) × (b ≡ true))
-  clock-is c b = go (isStarted sit c) refl
-    where
-      go : (s : Bool) → isStarted sit c ≡ s → (isSatisfied (onClock sit c b) ≡ true) ↔ ((isStarted sit c ≡ true) × (b ≡ true))
-      go true h = rw (h, for-is b) (λ e. (refl, e), λ x. x .1)
-      go false h = rw h (λ e. absurd (false≢true e), λ x. absurd (false≢true (x .0)))
+  tested-opposite EQUALS i n = opposite-where (isKnown sit i) (eqb (estimateOf sit i) n) (not (eqb (estimateOf sit i) n)) refl
+  tested-opposite DIFFERS i n = opposite-where (isKnown sit i) (not (eqb (estimateOf sit i) n)) (eqb (estimateOf sit i) n) (rw (Bool·not-not (eqb (estimateOf sit i) n)))
+  tested-opposite AT-LEAST i n = opposite-where (isStarted sit i) (leb n (reading sit i)) (ltb (reading sit i) n) (at-least-not n (reading sit i))
+  tested-opposite BELOW i n = opposite-where (isStarted sit i) (ltb (reading sit i) n) (leb n (reading sit i)) (rw (at-least-not n (reading sit i), Bool·not-not (leb n (reading sit i))))
 
   module _ (o : Operand) where
     -- the test of the opposite
@@ -103,50 +120,37 @@ module _ (sit : Situation) where
     unfolding violated satisfied outcome
     for-opposite = rw (test-opposite, tested-opposite (opposite (testOf (o .b0))) (o .b1) (value o), opposite-twice (testOf (o .b0)))
 
-    -- never both
-    not-both : (x : Test) → isSatisfied (tested sit x (o .b1) (value o)) ≡ true → isViolated (tested sit x (o .b1) (value o)) ≡ false
-    not-both x h = go (tested sit x (o .b1) (value o)) h
-      where
-        go : (y : Outcome) → isSatisfied y ≡ true → isViolated y ≡ false
-        go Satisfied e = refl
-        go Violated e = absurd (false≢true e)
-        go Open e = refl
+    -- "Over an unknown variable it is open, as it already is over an unstarted clock"
+    over-variable : OverVariable o → (outcome sit o ≡ Open) ↔ (estimateOf sit (o .b1) ≡ unknownValue)
+    unfolding outcome testOf
+    over-variable (inl h) = rw h (Iff·trans (open-where (isKnown sit (o .b1)) (eqb (estimateOf sit (o .b1)) (value o))) (unknown-is sit (o .b1)))
+    over-variable (inr h) = rw h (Iff·trans (open-where (isKnown sit (o .b1)) (not (eqb (estimateOf sit (o .b1)) (value o)))) (unknown-is sit (o .b1)))
 
-    -- "so over an unstarted clock it is neither"
-    over-unstarted : OverClock o → isStarted sit (o .b1) ≡ false → (satisfied sit o ≡ false) × (violated sit o ≡ false)
-    unfolding violated satisfied outcome testOf
-    over-unstarted (inl h) s = (rw (h, s), rw (h, s))
-    over-unstarted (inr h) s = (rw (h, s), rw (h, s))
-
-    -- over a variable it is one of the two, and so it is over a started clock
-    over-variable : OverVariable o → violated sit o ≡ not (satisfied sit o)
-    unfolding violated satisfied outcome testOf
-    over-variable (inl h) = rw h (against-is (eqb (estimateOf sit (o .b1)) (value o)))
-    over-variable (inr h) = rw h (against-is (not (eqb (estimateOf sit (o .b1)) (value o))))
-
-    over-started : OverClock o → isStarted sit (o .b1) ≡ true → violated sit o ≡ not (satisfied sit o)
-    unfolding violated satisfied outcome testOf
-    over-started (inl h) s = rw (h, s) (against-is (leb (value o) (reading sit (o .b1))))
-    over-started (inr h) s = rw (h, s) (against-is (ltb (reading sit (o .b1)) (value o)))
+    over-clock : OverClock o → (outcome sit o ≡ Open) ↔ (isStarted sit (o .b1) ≡ false)
+    unfolding outcome testOf
+    over-clock (inl h) = rw h (open-where (isStarted sit (o .b1)) (leb (value o) (reading sit (o .b1))))
+    over-clock (inr h) = rw h (open-where (isStarted sit (o .b1)) (ltb (reading sit (o .b1)) (value o)))
 
     -- every condition is judged so in every situation
     pub conditions-judged : Judged sit o
     unfolding violated satisfied outcome testOf
     conditions-judged =
         let x : ℕ = estimateOf sit (o .b1) in
+        let k : Bool = isKnown sit (o .b1) in
+        let s : Bool = isStarted sit (o .b1) in
         let n : ℕ = value o in
         let r : ℕ = reading sit (o .b1) in
         record {
-          equals = λ h. rw (h, for-is (eqb x n)) (equal n x);
-          differs = λ h. rw (h, for-is (not (eqb x n))) (λ e. eqb-false x n (not-true (eqb x n) e), λ d. rw (ne-eqb x n d));
-          at-least = λ h. rw h (Iff·trans (clock-is (o .b1) (leb n r)) (Iff·and Iff·rfl (at-most r n)));
-          below = λ h. rw h (Iff·trans (clock-is (o .b1) (ltb r n)) (Iff·and Iff·rfl (ltb-true r n, lt-ltb r n)));
+          equals = λ h. rw h (Iff·trans (satisfied-where k (eqb x n)) (Iff·and Iff·rfl (equal n x)));
+          differs = λ h. rw h (Iff·trans (satisfied-where k (not (eqb x n))) (Iff·and Iff·rfl (differ n x)));
+          at-least = λ h. rw h (Iff·trans (satisfied-where s (leb n r)) (Iff·and Iff·rfl (at-most r n)));
+          below = λ h. rw h (Iff·trans (satisfied-where s (ltb r n)) (Iff·and Iff·rfl (ltb-true r n, lt-ltb r n)));
           violated-is = against-opposite;
           satisfied-is = for-opposite;
-          neither = over-unstarted;
-          on-variable = over-variable;
-          on-clock = over-started;
-          never-both = not-both (testOf (o .b0));
+          never-both = not-both (outcome sit o);
+          open-is = neither-is (outcome sit o);
+          open-variable = over-variable;
+          open-clock = over-clock;
         }
 
 -- an allowed condition is over a variable or over a clock, and its opposite is allowed too

@@ -17,6 +17,7 @@ pub mod Endings
 pub mod DecidingAfter
 pub mod ZeroOrOne
 pub mod Stepping
+pub mod Open
 pub mod InsteadInRuns
 pub mod OneTable
 pub mod LinkChecks

@@ -1,10 +1,10 @@
 -- Which records are allowed, sentence by sentence, by index and by part number.
 use Prim.Native.Nat.{ℕ, _+_, _*_, _≤_, _<_}
 use mathlib.Core.Path.{_≡_}
-use mathlib.Core.Logic.{_≢_}
+use mathlib.Core.Logic.{_≢_, _⊎_}
 use mathlib.Core.List.{List}
 use lib.ListN.{length, getD}
-use Rattle.meaning.specs.Sizes.{maxParts, maxVariables, maxClocks, maxValue, timeWidth}
+use Rattle.meaning.specs.Sizes.{maxParts, maxVariables, maxClocks, maxValue, unknownValue, timeWidth}
 use Rattle.meaning.specs.Kinds.{SEQ, PAR, MAINTAIN, CHOICE, REPEAT}
 use Rattle.meaning.specs.Program.{parts, variables, clocks}
 use Rattle.meaning.specs.Table.{endAt, parentAt, kindAt}
@@ -37,6 +37,10 @@ NoTwoChildren t r p = (q u : ℕ) → MarkedChild t r p q → MarkedChild t r p 
 abbrev pub OneChild : List ℕ → List ℕ → ℕ → Type 0
 OneChild t r p = SomeChild t r p × NoTwoChildren t r p
 
+-- a byte of an estimate: a value, or unknown
+abbrev pub EstimateByte : ℕ → Type 0
+EstimateByte x = (x ≤ maxValue) ⊎ (x ≡ unknownValue)
+
 -- "A record is allowed when: .."
 pub record AllowedRecord (t r : List ℕ) : Type 0 where
   -- "Run record, 317 bytes"
@@ -50,8 +54,8 @@ pub record AllowedRecord (t r : List ℕ) : Type 0 where
   pub beyond-clock-flags : (i : ℕ) → clocks t ≤ i → i < maxClocks → getD r (startedPlace + i) 0 ≡ 0
   pub beyond-clock-starts : (i : ℕ) → timeWidth * clocks t ≤ i → i < timeWidth * maxClocks → getD r (startsPlace + i) 0 ≡ 0
   pub beyond-parts : (i : ℕ) → parts t ≤ i → i < maxParts → getD r (marksPlace + i) 0 ≡ 0
-  -- "estimate values are at most 250"
-  pub estimate-small : (v : ℕ) → v < variables t → getD (estimateIn t r) v 0 ≤ maxValue
+  -- "estimate values are at most 250", and "Records may hold 255 in the estimate" (document 02, R-4)
+  pub estimate-bytes : (v : ℕ) → v < variables t → EstimateByte (getD (estimateIn t r) v 0)
   -- "an unstarted clock's time is 0 and a started one's not after the last time"
   pub unstarted-zero : (c : ℕ) → c < clocks t → getD (startedIn t r) c 0 ≡ 0 → getD (startsIn t r) c 0 ≡ 0
   pub started-before : (c : ℕ) → c < clocks t → 0 < getD (startedIn t r) c 0 → getD (startsIn t r) c 0 ≤ lastTime r

@@ -8,11 +8,10 @@ use lib.Dec.{eqb}
 use lib.ListN.{replicate}
 use borrow.Author.Tests.{le-leb}
 use Rattle.meaning.specs.declared.Form.the-variants.{File}
-use Rattle.meaning.specs.Sizes.{maxValue}
 use Rattle.meaning.specs.Program.{variables, treeOf, programRefusal}
 use Rattle.meaning.specs.Table.{compiled}
 use Rattle.meaning.specs.Conditions.{outcome, reached, satisfied, violated}
-use Rattle.meaning.specs.Record.{recordLength}
+use Rattle.meaning.specs.Record.{recordLength, estimateByteAllowed}
 use Rattle.meaning.specs.Cycle.{valuesFor, goalBytes, estimateAllowed, beginRefusal}
 use Rattle.meaning.proofs.Computed.{read}
 use Rattle.agreement.specs.Unfolding.{afresh, check, working, settle}
@@ -47,9 +46,9 @@ module _ (x : Station) (accepted : programRefusal File (x .file) ≡ 0) (allowed
 
 -- stations 2 and 3, for all
 pub any-hold : AnyHold
-unfolding treeFinishing lowestAtWork startEach sameReply sameReplies byTree read outcome reached satisfied violated valuesFor goalBytes estimateAllowed afresh check working settle treeNext treeReply
+unfolding treeFinishing lowestAtWork startEach sameReply sameReplies byTree read outcome reached satisfied violated valuesFor goalBytes estimateByteAllowed estimateAllowed afresh check working settle treeNext treeReply
 any-hold =
     record {
-      any-settling = λ time e short fits. by-tree-alone (finishesWith time e) refl refl (short, tt) refl (rw (le-leb 0 time (omega arith), le-leb e maxValue fits));
+      any-settling = λ time e short fits. by-tree-alone (finishesWith time e) refl refl (short, tt) refl (rw (le-leb 0 time (omega arith), fits));
       any-first-time = λ time short. by-tree-alone (offersAt time) refl refl (short, tt) refl (rw (le-leb 0 time (omega arith)));
     }

@@ -91,14 +91,14 @@ pub worked : Worked
 unfolding settleCall
 worked =
     record {
-      begun-says = record { marks-are = refl; phase-is = refl; time-is = refl; estimate-is = refl; started-are = refl; starts-are = refl };
+      begun-says = refl;
       first-judges = refl;
-      started-says = record { marks-are = refl; phase-is = refl; time-is = refl; estimate-is = refl; started-are = refl; starts-are = refl };
+      started-says = refl;
       second-judges = refl;
-      decided-says = record { marks-are = refl; phase-is = refl; time-is = refl; estimate-is = refl; started-are = refl; starts-are = refl };
+      decided-says = refl;
       third-goals = refl;
       third-judges = refl;
-      again-says = record { marks-are = refl; phase-is = refl; time-is = refl; estimate-is = refl; started-are = refl; starts-are = refl };
+      again-says = refl;
     }
 
 -- The first settling: clock 0 starts after judging, so the WAIT over it is open; a reading of 0 would satisfy it

@@ -144,12 +144,12 @@ pub worked : Worked
 unfolding settleCall
 worked =
     record {
-      begun-says = record { marks-are = refl; phase-is = refl; time-is = refl; estimate-is = refl; started-are = refl; starts-are = refl };
-      before-says = record { marks-are = refl; phase-is = refl; time-is = refl; estimate-is = refl; started-are = refl; starts-are = refl };
+      begun-says = refl;
+      before-says = refl;
       offer-judges = refl;
-      offered-says = record { marks-are = refl; phase-is = refl; time-is = refl; estimate-is = refl; started-are = refl; starts-are = refl };
+      offered-says = refl;
       settling-judges = refl;
-      after-says = record { marks-are = refl; phase-is = refl; time-is = refl; estimate-is = refl; started-are = refl; starts-are = refl };
+      after-says = refl;
     }
 
 -- The same cycle by unfolding the tree

@@ -1,4 +1,5 @@
 pub mod Stations
 pub mod Any
 pub mod Doubtful
+pub mod Silent
 pub mod Deciding

@@ -1,11 +1,39 @@
--- The ten stations and the further programs hold, by the table's definitions and by the unfolding: one fact over the tables of them, computed.
+-- The ten stations and the further programs hold, by the table's definitions and by the unfolding: one fact over the tables of them, computed table by
+-- table.
 use mathlib.Core.Path.{_≡_, refl}
-use mathlib.Core.Bool.{true}
+use mathlib.Core.Bool.{Bool, true}
+use mathlib.Core.List.{List}
+use Rattle.base.specs.Lists.{all}
 use Rattle.meaning.proofs.Computed.{settle as settleCall}
 use Rattle.agreement.specs.Unfolding.{afresh, check, working, settle}
 use Rattle.agreement.specs.Runs.{treeNext, treeReply, tableFinishing, treeFinishing, lowestAtWork, startEach}
-use Rattle.stations.specs.Stations.{stations, further, contestedStations, restartedStations, sameReply, sameReplies, byTable, byTree, holds, allHold}
+use Rattle.stations.specs.Stations.{Station, stations, further, contestedStations, restartedStations, silentStations, sameReply, sameReplies, byTable, byTree, holds, allHold}
+
+-- to unfold this is to unfold all that a station is computed with
+unfoldable allOf : List Station → Bool
+unfolding lowestAtWork startEach tableFinishing treeFinishing sameReply sameReplies byTable byTree holds settleCall afresh check working settle treeNext treeReply
+allOf xs = all holds xs
+
+ten-hold : allOf stations ≡ true
+unfolding stations allOf
+ten-hold = refl
+
+further-hold : allOf further ≡ true
+unfolding further allOf
+further-hold = refl
+
+contested-hold : allOf contestedStations ≡ true
+unfolding contestedStations allOf
+contested-hold = refl
+
+restarted-hold : allOf restartedStations ≡ true
+unfolding restartedStations allOf
+restarted-hold = refl
+
+silent-hold : allOf silentStations ≡ true
+unfolding silentStations allOf
+silent-hold = refl
 
 pub ten-stations : allHold ≡ true
-unfolding stations further contestedStations restartedStations lowestAtWork startEach tableFinishing treeFinishing sameReply sameReplies byTable byTree holds settleCall afresh check working settle treeNext treeReply
-ten-stations = refl
+unfolding allOf
+ten-stations = rw (ten-hold, further-hold, contested-hold, restarted-hold, silent-hold)

@@ -7,14 +7,15 @@ use Rattle.meaning.specs.Program.{variables}
 use Rattle.meaning.specs.Record.{phaseOf, lastTime, estimateIn, startedIn, startsIn, marksIn}
 use Rattle.meaning.specs.Cycle.{offeredInto, settledInto}
 
--- what a record says: the marks of the parts, the phase, the last time, the estimate, and the clocks
-pub record Says (t r marks : List ℕ) (phase time : ℕ) (estimate started starts : List ℕ) : Type 0 where
-  pub marks-are : marksIn t r ≡ marks
-  pub phase-is : phaseOf r ≡ phase
-  pub time-is : lastTime r ≡ time
-  pub estimate-is : estimateIn t r ≡ estimate
-  pub started-are : startedIn t r ≡ started
-  pub starts-are : startsIn t r ≡ starts
+-- the marks of the parts, the phase, the last time, the estimate, the clocks' flags and their starts
+abbrev pub Moment : Type 0
+Moment = List ℕ × ℕ × ℕ × List ℕ × List ℕ × List ℕ
+
+-- what a record says of these
+abbrev pub Says : List ℕ → List ℕ → List ℕ → ℕ → ℕ → List ℕ → List ℕ → List ℕ → Type 0
+Says t r marks phase time estimate started starts =
+    let said : Moment = (marksIn t r, phaseOf r, lastTime r, estimateIn t r, startedIn t r, startsIn t r) in
+    said ≡ (marks, phase, time, estimate, started, starts)
 
 -- the record after a cycle: an offer at a time, and a settling with an estimate
 abbrev pub cycle : List ℕ → List ℕ → ℕ → List ℕ → List ℕ

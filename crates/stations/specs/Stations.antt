@@ -1,6 +1,6 @@
--- The ten stations of document 01, further programs, and those of document 02's R-1 and R-2: tables of them, and what it is for one of them to hold by
+-- The ten stations of document 01, further programs, and those of document 02's R-1, R-2 and R-4: tables of them, and what it is for one of them to hold by
 -- the table's definitions and by the unfolding.
-use Prim.Native.Nat.{ℕ, suc, _≤_, _<_}
+use Prim.Native.Nat.{ℕ, suc, _<_}
 use mathlib.Core.Path.{_≡_}
 use mathlib.Core.Bool.{Bool, true, false, cond, _&&_}
 use mathlib.Core.Option.{Option, none, some}
@@ -9,11 +9,11 @@ use lib.Dec.{eqb}
 use lib.ListN.{replicate}
 use Rattle.base.specs.Lists.{all, flat, same}
 use Rattle.meaning.specs.declared.Form.the-variants.{File}
-use Rattle.meaning.specs.Sizes.{maxValue, timeLimit}
+use Rattle.meaning.specs.Sizes.{unknownValue, timeLimit}
 use Rattle.meaning.specs.Tree.{Part}
 use Rattle.meaning.specs.Program.{variables, clocks, treeOf, programRefusal}
 use Rattle.meaning.specs.Table.{compiled}
-use Rattle.meaning.specs.Record.{recordLength, startedIn, startsIn}
+use Rattle.meaning.specs.Record.{recordLength, startedIn, startsIn, estimateByteAllowed}
 use Rattle.meaning.specs.Cycle.{noGoal, contested, beginRefusal, begunInto}
 use Rattle.meaning.specs.Answers.{tooDeep, bufferTooShort, wrongPhase, timeBeforeLast, estimateNotAllowed, runFinished, noVariable}
 use Rattle.agreement.specs.Runs.{Call, offer, settling, Reply, refused, goals, running, done, tableReplies, tableAfter, begin, treeReplies, treeAfter, tableFinishing, treeFinishing}
@@ -109,7 +109,7 @@ stations =
     ∷ []
 
 -- What no station tries: WAIT 0=1, SEQ(START 0, WAIT clock 0 below 5) on either side of its bound, and refused calls, which change nothing:
--- settling first (11), an estimate above 250 and one too long (13), an offer after an offer (11), before the last time (12), with no
+-- settling first (11), an estimate of 251 and one too long (13), an offer after an offer (11), before the last time (12), with no
 -- room (8), and any call after the end (14)
 abbrev pub waitsValue : List ℕ
 waitsValue = program 1 (3 ∷ []) (1 ∷ 0 ∷ 1 ∷ 0 ∷ [])
@@ -210,6 +210,48 @@ restartedStations =
     ∷ goallessStation startsTogether (7 ∷ []) 0 7
     ∷ []
 
+-- "An open WAIT stays, an open MAINTAIN goes on, an open CHOICE takes its second child, and a GOAL on an unknown variable is not reached" (document 02,
+-- R-4), each with "equals" and with "differs": WAIT 0≠1; MAINTAIN(0=1, GOAL 0=2); CHOICE(0=1 or 0≠1; GOAL 0=1; GOAL 0=2)
+abbrev pub waitsOther : List ℕ
+waitsOther = program 1 (3 ∷ []) (2 ∷ 0 ∷ 1 ∷ 0 ∷ [])
+
+abbrev pub maintainsValue : List ℕ
+maintainsValue = program 2 (6 ∷ 1 ∷ []) (1 ∷ 0 ∷ 1 ∷ 0 ∷ 0 ∷ 0 ∷ 2 ∷ 0 ∷ [])
+
+abbrev pub decidesBy : ℕ → List ℕ
+decidesBy test = program 3 (7 ∷ 1 ∷ 1 ∷ []) (test ∷ 0 ∷ 1 ∷ 0 ∷ 0 ∷ 0 ∷ 1 ∷ 0 ∷ 0 ∷ 0 ∷ 2 ∷ 0 ∷ [])
+
+-- SEQ(MAINTAIN(0≠2, SEQ(START 0, WAIT clock 0 at least 10, GOAL 0=3)), GOAL 0=1)
+abbrev pub coresLevel : List ℕ
+coresLevel =
+    program 7
+    (4 ∷ 6 ∷ 4 ∷ 2 ∷ 3 ∷ 1 ∷ 1 ∷ [])
+    (2 ∷ 0 ∷ 0 ∷ 0 ∷ 2 ∷ 0 ∷ 2 ∷ 0 ∷ 3 ∷ 0 ∷ 0 ∷ 0 ∷ 0 ∷ 0 ∷ 0 ∷ 0 ∷ 3 ∷ 0 ∷ 10 ∷ 0 ∷ 0 ∷ 0 ∷ 3 ∷ 0 ∷ 0 ∷ 0 ∷ 1 ∷ 0 ∷ [])
+
+-- the sensor falls silent in the settling before the clock comes due, three parts deep, and the WAIT ends while it is silent; it comes back with what it
+-- says, and in the next cycle the MAINTAIN is violated or has ended by itself
+abbrev pub silentCoring : ℕ → List Call → List Reply → Station
+silentCoring back calls replies =
+    startingStation coresLevel
+    (at 100 ∷ with-estimate 0 ∷ at 109 ∷ with-estimate unknownValue ∷ at 110 ∷ with-estimate unknownValue ∷ at 111 ∷ with-estimate back ∷ calls)
+    (goal-is noGoal ∷ running ∷ goal-is noGoal ∷ running ∷ goal-is noGoal ∷ running ∷ goal-is 3 ∷ running ∷ replies)
+    none
+    100
+
+unfoldable pub silentStations : List Station
+silentStations =
+    station goal1 unknownValue (at 0 ∷ with-estimate unknownValue ∷ at 0 ∷ with-estimate 1 ∷ []) (goal-is 1 ∷ running ∷ goal-is 1 ∷ done ∷ []) (some 2)
+    ∷ station waitsValue 1 (at 0 ∷ with-estimate unknownValue ∷ at 0 ∷ with-estimate 1 ∷ []) (goal-is noGoal ∷ running ∷ goal-is noGoal ∷ done ∷ []) (some 2)
+    ∷ station waitsOther 0 (at 0 ∷ with-estimate unknownValue ∷ at 0 ∷ with-estimate 0 ∷ []) (goal-is noGoal ∷ running ∷ goal-is noGoal ∷ done ∷ []) (some 2)
+    ∷ station maintains unknownValue (at 0 ∷ with-estimate unknownValue ∷ at 0 ∷ with-estimate 2 ∷ at 0 ∷ with-estimate unknownValue ∷ []) (goal-is 1 ∷ running ∷ goal-is 1 ∷ running ∷ goal-is noGoal ∷ done ∷ []) (some 3)
+    ∷ station maintainsValue unknownValue (at 0 ∷ with-estimate 1 ∷ at 0 ∷ with-estimate 0 ∷ at 0 ∷ with-estimate 1 ∷ []) (goal-is 2 ∷ running ∷ goal-is 2 ∷ running ∷ goal-is noGoal ∷ done ∷ []) (some 3)
+    ∷ station (decidesBy 1) 1 (at 0 ∷ with-estimate unknownValue ∷ at 0 ∷ []) (goal-is noGoal ∷ running ∷ goal-is 2 ∷ []) none
+    ∷ station (decidesBy 2) 0 (at 0 ∷ with-estimate unknownValue ∷ at 0 ∷ []) (goal-is noGoal ∷ running ∷ goal-is 2 ∷ []) none
+    ∷ silentCoring 2 (at 112 ∷ with-estimate unknownValue ∷ at 113 ∷ []) (goal-is noGoal ∷ running ∷ goal-is 1 ∷ [])
+    ∷ silentCoring 3 (at 112 ∷ []) (goal-is 1 ∷ [])
+    ∷ station goal1 0 (at 0 ∷ with-estimate 251 ∷ with-estimate 254 ∷ with-estimate unknownValue ∷ []) (goal-is 1 ∷ refused estimateNotAllowed ∷ refused estimateNotAllowed ∷ running ∷ []) none
+    ∷ []
+
 -- Station 10: "The file .. and its table below"
 abbrev pub table10 : List ℕ
 table10 =
@@ -276,7 +318,7 @@ unfoldable pub holds : Station → Bool
 holds x = eqb (programRefusal File (x .file)) (x .answer) && cond (eqb (x .answer) 0) (byTable x && byTree x (treeOf File (x .file))) true
 
 abbrev pub allHold : Bool
-allHold = all holds stations && (same (compiled File waits) table10 && (all holds further && (all holds contestedStations && all holds restartedStations)))
+allHold = all holds stations && (same (compiled File waits) table10 && (all holds further && (all holds contestedStations && (all holds restartedStations && all holds silentStations))))
 
 -- Stations 2 and 3 for all: "any settling finishes" after an offer at any time, with any estimate that is allowed; "goals 01 at any first time"
 abbrev pub finishesWith : ℕ → ℕ → Station
@@ -286,5 +328,5 @@ abbrev pub offersAt : ℕ → Station
 offersAt time = station limited 0 (at time ∷ []) (goal-is 1 ∷ []) none
 
 pub record AnyHold : Type 0 where
-  pub any-settling : (time e : ℕ) → time < timeLimit → e ≤ maxValue → holds (finishesWith time e) ≡ true
+  pub any-settling : (time e : ℕ) → time < timeLimit → estimateByteAllowed e ≡ true → holds (finishesWith time e) ≡ true
   pub any-first-time : (time : ℕ) → time < timeLimit → holds (offersAt time) ≡ true

@@ -2,7 +2,7 @@
 //! condition over a clock that it starts in the same cycle.
 
 use super::clock_limit;
-use crate::counts::Counts;
+use crate::counts::{self, Counts};
 use crate::parts::{Condition, Test};
 use crate::unfolding::{Rest, Run, Tree};
 
@@ -134,15 +134,12 @@ pub struct StartCounts([u64; NAMES.len()]);
 impl StartCounts {
     /// Counts a settling that was accepted.
     pub fn note(&mut self, starts: &Starts) {
-        for (count, is_so) in self.0.iter_mut().zip(starts.fields()) {
-            *count += u64::from(is_so);
-        }
+        counts::note(&mut self.0, starts.fields());
     }
 
     /// What was counted, as the list of counts names it.
     pub fn counts(&self) -> Counts {
-        let names = NAMES.map(str::to_string);
-        names.into_iter().zip(self.0).collect()
+        counts::by_name(NAMES, self.0)
     }
 }
 

@@ -1,5 +1,7 @@
-//! What a part means, made of what its children mean: document 01's "Unfolding the tree".
+//! What a part means, made of what its children mean: document 01's "Unfolding the tree", with the
+//! three answers of a condition that document 02's R-4 names.
 
+use super::known;
 use crate::parts::{Condition, Label, Part, Test};
 
 /// A part with everything inside it.
@@ -69,29 +71,48 @@ pub(super) struct View<'a> {
     pub clocks: &'a [Option<u32>],
 }
 
+/// What testing a condition answers.
+#[derive(Clone, Copy, Debug, PartialEq, Eq)]
+enum Outcome {
+    Satisfied,
+    Violated,
+    Open,
+}
+
 impl View<'_> {
-    fn satisfied(&self, condition: &Condition) -> bool {
-        let subject = usize::from(condition.subject);
-        let value = condition.value;
-        match condition.test {
-            Test::Equals => u16::from(self.estimate[subject]) == value,
-            Test::Differs => u16::from(self.estimate[subject]) != value,
-            Test::AtLeast => self
-                .reading(subject)
-                .is_some_and(|reading| reading >= u32::from(value)),
-            Test::Below => self
-                .reading(subject)
-                .is_some_and(|reading| reading < u32::from(value)),
+    /// A condition is violated when its opposite is satisfied. Over an unknown variable and over an
+    /// unstarted clock it is neither, so it is open.
+    fn outcome(&self, condition: &Condition) -> Outcome {
+        let opposite = Condition {
+            test: opposite(condition.test),
+            ..*condition
+        };
+        if self.satisfied(condition) {
+            Outcome::Satisfied
+        } else if self.satisfied(&opposite) {
+            Outcome::Violated
+        } else {
+            Outcome::Open
         }
     }
 
-    /// A condition is violated when its opposite is satisfied: over an unstarted clock it is
-    /// neither.
-    fn violated(&self, condition: &Condition) -> bool {
-        self.satisfied(&Condition {
-            test: opposite(condition.test),
-            ..*condition
-        })
+    fn satisfied(&self, condition: &Condition) -> bool {
+        let subject = usize::from(condition.subject);
+        let equals = |value: u8| u16::from(value) == condition.value;
+        let at_least = |reading: u32| reading >= u32::from(condition.value);
+        match condition.test {
+            Test::Equals => self.value(subject).is_some_and(equals),
+            Test::Differs => self.value(subject).is_some_and(|value| !equals(value)),
+            Test::AtLeast => self.reading(subject).is_some_and(at_least),
+            Test::Below => self
+                .reading(subject)
+                .is_some_and(|reading| !at_least(reading)),
+        }
+    }
+
+    /// A variable's value, if it is known.
+    pub fn value(&self, variable: usize) -> Option<u8> {
+        known(self.estimate[variable])
     }
 
     /// What a clock reads, if it is started.
@@ -167,7 +188,7 @@ impl Tree {
                 }
             }
             (Tree::Maintain(condition, inner), Rest::Maintain { violated, child }) => {
-                *violated = view.violated(condition);
+                *violated = view.outcome(condition) == Outcome::Violated;
                 if !*violated {
                     inner.check(child, view);
                 }
@@ -200,10 +221,12 @@ impl Tree {
     pub(super) fn settle(&self, rest: &Rest, view: &View) -> Option<Rest> {
         match (self, rest) {
             (Tree::Goal { variable, value }, Rest::Leaf) => {
-                leaf_unless(view.estimate[*variable] == *value)
+                leaf_unless(view.value(*variable) == Some(*value))
             }
             (Tree::Start { .. }, Rest::Leaf) => None,
-            (Tree::Wait(condition), Rest::Leaf) => leaf_unless(view.satisfied(condition)),
+            (Tree::Wait(condition), Rest::Leaf) => {
+                leaf_unless(view.outcome(condition) == Outcome::Satisfied)
+            }
             (Tree::Seq(children), Rest::Seq { current, child }) => {
                 settle_seq(children, *current, child, view)
             }
@@ -217,7 +240,10 @@ impl Tree {
                 })
             }
             (Tree::Choice(condition, branches), Rest::Undecided) => {
-                let branch = usize::from(!view.satisfied(condition));
+                let branch = match view.outcome(condition) {
+                    Outcome::Satisfied => 0,
+                    Outcome::Violated | Outcome::Open => 1,
+                };
                 let child = Box::new(branches[branch].afresh());
                 Some(Rest::Decided { branch, child })
             }

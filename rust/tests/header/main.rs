@@ -1,4 +1,4 @@
-//! The C header has the numbers of the proved code and of document 01, name by name.
+//! The C header has the numbers of the proved code and of the papers, name by name.
 
 mod code;
 mod macros;
@@ -92,8 +92,8 @@ fn short_name(name: &str) -> &str {
     name.strip_prefix("GURVOKE_").expect("the header's prefix")
 }
 
-/// The numbers of document 01 as the tests have them, by their names in the header.
-fn numbers_of_the_paper() -> Numbers {
+/// The numbers of the papers as the tests have them, by their names in the header.
+fn numbers_of_the_papers() -> Numbers {
     let mut numbers = Numbers::new();
     let mut add = |name: &str, number: usize| {
         numbers.insert(name.to_string(), number as u64);
@@ -122,13 +122,14 @@ fn numbers_of_the_paper() -> Numbers {
     numbers
 }
 
-fn limits_and_places() -> [(&'static str, usize); 31] {
+fn limits_and_places() -> [(&'static str, usize); 32] {
     [
         ("MAX_PARTS", sizes::MAX_PARTS),
         ("MAX_VARIABLES", sizes::MAX_VARIABLES),
         ("MAX_CLOCKS", sizes::MAX_CLOCKS),
         ("MAX_DEPTH", sizes::MAX_DEPTH),
         ("MAX_VALUE", sizes::MAX_VALUE.into()),
+        ("UNKNOWN_VALUE", sizes::UNKNOWN_VALUE.into()),
         ("NO_PART", sizes::NO_PART),
         ("NUMBER", sizes::NUMBER_LEN),
         ("KIND", sizes::KIND_LEN),
@@ -192,14 +193,14 @@ fn refusals_of_the_proved_code() {
     assert_eq!(refusals_of(&code), numbers);
 }
 
-/// Every number in the header is document 01's, and each of these stands in the header.
+/// Every number in the header is the papers', and each of these stands in the header.
 #[test]
-fn numbers_of_document_01() {
+fn numbers_in_the_papers() {
     let mut header = numbers_in_header();
     for name in ONLY_IN_C {
         assert!(header.remove(name).is_some(), "GURVOKE_{name}");
     }
-    assert_eq!(header, numbers_of_the_paper());
+    assert_eq!(header, numbers_of_the_papers());
 }
 
 /// The macros that compute a length or a place.

@@ -7,8 +7,8 @@ use std::path::Path;
 use gurvoke::counts::{named, Counts};
 use gurvoke::hex::hex;
 use gurvoke::programs::{Program, TemporaryFile};
-use gurvoke::rehearsal::{read_line, Answer, LatestRun, Line, Rehearsal};
-use gurvoke::runs::{StartCounts, Starts};
+use gurvoke::rehearsal::{read_line, Answer, Call, LatestRun, Line, Rehearsal};
+use gurvoke::runs::{GapCounts, Gaps, StartCounts, Starts};
 use gurvoke::unfolding;
 
 pub const REHEARSE: Program = Program::named("rehearse");
@@ -73,6 +73,7 @@ pub struct Tally {
     pub rehearsals: u64,
     lines: BTreeMap<String, u64>,
     starts: StartCounts,
+    gaps: GapCounts,
 }
 
 impl Tally {
@@ -83,11 +84,11 @@ impl Tally {
         for line in text.lines() {
             *self.lines.entry(kind(line)).or_default() += 1;
         }
-        self.note_starts(rehearsal);
+        self.note_calls(rehearsal);
     }
 
-    /// Notes what the settlings do to clocks, which the lines do not tell.
-    fn note_starts(&mut self, rehearsal: &Rehearsal) {
+    /// Notes what the calls come upon, which the lines do not tell.
+    fn note_calls(&mut self, rehearsal: &Rehearsal) {
         let Ok(program) = unfolding::Program::read(&rehearsal.file) else {
             return;
         };
@@ -96,14 +97,26 @@ impl Tally {
             match read_line(line) {
                 Line::PassedOver => {}
                 Line::NoCall => return,
-                Line::Call(call) => {
-                    let starts = latest.run().map(Starts::of_settling);
-                    let settled = matches!(latest.call(&call), Answer::Settled(_));
-                    if let Some(starts) = starts.filter(|_| settled) {
-                        self.starts.note(&starts);
-                    }
-                }
+                Line::Call(call) => self.note_call(&mut latest, &call),
             }
+        }
+    }
+
+    /// Makes a call on the model, and notes what a settling does to clocks, and what an offer and a
+    /// settling come upon where a variable is unknown.
+    fn note_call(&mut self, latest: &mut LatestRun, call: &Call) {
+        let starts = latest.run().map(Starts::of_settling).unwrap_or_default();
+        let gaps = match (call, latest.run()) {
+            (Call::Settle { estimate }, Some(run)) => Gaps::of_settling(run, estimate),
+            _ => Gaps::default(),
+        };
+        match (latest.call(call), latest.run()) {
+            (Answer::Offered(_), Some(run)) => self.gaps.note(&Gaps::of_offer(run)),
+            (Answer::Settled(_), _) => {
+                self.starts.note(&starts);
+                self.gaps.note(&gaps);
+            }
+            _ => {}
         }
     }
 
@@ -127,6 +140,7 @@ impl Tally {
             counts.push((format!("lines {kind}"), *count));
         }
         counts.extend(self.starts.counts());
+        counts.extend(self.gaps.counts());
         counts
     }
 }
@@ -135,12 +149,16 @@ impl Tally {
 const ONE: &str = "contested one";
 const SEVERAL: &str = "contested several";
 
+/// The kind of estimates in which a variable is unknown.
+const WITH_GAPS: &str = "estimate with gaps";
+
 /// What kind of line it is: the first word, with the number of a refusal; offers with contested
-/// variables, and lines with no call, under names of their own.
+/// variables, estimates with unknown ones, and lines with no call, under names of their own.
 fn kind(line: &str) -> String {
     let first = line.split(' ').next().unwrap_or_default();
     let contested = line.split(' ').filter(|&pair| pair == "FE").count();
     match first {
+        "estimate" if line.contains("FF") => WITH_GAPS.to_string(),
         "refused" => line.to_string(),
         "goals" if contested == 1 => ONE.to_string(),
         "goals" if contested > 1 => SEVERAL.to_string(),

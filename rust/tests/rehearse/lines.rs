@@ -192,10 +192,22 @@ const AFTER_BEGIN: &[(&[u8], Outcome)] = &[
     (b"begin fA", Begun("FA")),
     (b"begin FA", Begun("FA")),
     (b"   begin    fa    ", Begun("FA")),
+    (b"begin ff", Begun("FF")),
+    (b"begin FF", Begun("FF")),
+    (b"begin fF", Begun("FF")),
+    (b"begin Ff", Begun("FF")),
+    (b"  begin   FF  ", Begun("FF")),
+    (b"begin f", NoCall),
+    (b"begin f f", NoCall),
+    (b"begin fff", NoCall),
     (b"begin fb", Refused(ESTIMATE_NOT_ALLOWED)),
-    (b"begin FF", Refused(ESTIMATE_NOT_ALLOWED)),
+    (b"begin FC", Refused(ESTIMATE_NOT_ALLOWED)),
+    (b"begin fD", Refused(ESTIMATE_NOT_ALLOWED)),
+    (b"begin Fe", Refused(ESTIMATE_NOT_ALLOWED)),
     (b"begin 00 00", Refused(ESTIMATE_NOT_ALLOWED)),
     (b"begin 0000", Refused(ESTIMATE_NOT_ALLOWED)),
+    (b"begin FF FF", Refused(ESTIMATE_NOT_ALLOWED)),
+    (b"begin ffff", Refused(ESTIMATE_NOT_ALLOWED)),
     (b"begin 00 0102 03", Refused(ESTIMATE_NOT_ALLOWED)),
     // A settling has not its turn, whatever its estimate, if it is a call at all.
     (b"settle", Refused(WRONG_PHASE)),
@@ -254,8 +266,20 @@ const LISTS: &[(&[u8], &str)] = &[
         SETTLED,
     ),
     (
-        b"begin 00\noffer 7\nsettle 0100\nsettle fb01\nsettle fF\nsettle 01\n\n",
+        b"begin 00\noffer 7\nsettle 0100\nsettle fb01\nsettle fE\nsettle 01\n\n",
         SETTLED,
+    ),
+    (
+        b"begin FF\noffer 7\nsettle ff\noffer 8\nsettle fF\noffer 9\nsettle Ff",
+        UNKNOWN,
+    ),
+    (
+        b"begin 00\noffer 7\nsettle FB\nsettle fc\nsettle fD\nsettle Fe\nsettle ff ff\nsettle FF",
+        NO_VALUES,
+    ),
+    (
+        b"begin ff\noffer 7\nsettle fb\nsettle FC\nsettle Fd\nsettle fE\nsettle FFfb\nsettle ff\n",
+        NO_VALUES,
     ),
 ];
 
@@ -267,6 +291,12 @@ const BEFORE_A_BEGINNING: &str = include_str!("../data/rehearsals/before_a_begin
 
 /// Three estimates that are not allowed, then one that finishes the run.
 const SETTLED: &str = include_str!("../data/rehearsals/settled.out");
+
+/// Nothing but estimates in which the variable is unknown.
+const UNKNOWN: &str = include_str!("../data/rehearsals/unknown.out");
+
+/// Four estimates of a byte that is no value, one of two bytes, and one of an unknown variable.
+const NO_VALUES: &str = include_str!("../data/rehearsals/no_values.out");
 
 /// Every line after a beginning, with a line feed and without one, and every list.
 fn with_texts() -> Vec<(Rehearsal, String)> {

@@ -63,6 +63,13 @@ fn restarting_programs() {
     assert_counts(file!(), "restarting_programs", &tally.counts());
 }
 
+/// Programs made for sensors that fall silent and come back.
+#[test]
+fn silent_programs() {
+    let tally = check_scripts(609, 200, runs::silent_program);
+    assert_counts(file!(), "silent_programs", &tally.counts());
+}
+
 /// Small programs, which finish often.
 #[test]
 fn small_programs() {
@@ -107,7 +114,7 @@ fn damaged_scripts() {
 fn every_place_damaged() {
     let whole = Rehearsal {
         file: STATION_8.to_vec(),
-        calls: b"begin 0f\noffer 9 1\nsettle 00\n#\noffer 19\nsettle FA".to_vec(),
+        calls: b"begin 0f\noffer 9 1\nsettle fF\n#\noffer 19\nsettle FA".to_vec(),
         with_parts: true,
     };
     let mut tally = Tally::default();

@@ -1,7 +1,7 @@
 //! The stations of document 01 as lists of calls, with the texts that they give: `NAME.calls` and
 //! `NAME.out` in `tests/data/rehearsals`. The texts have the marked parts.
 
-use gurvoke::builder::{differs, file, goal, maintain, par};
+use gurvoke::builder::{differs, equals, file, goal, maintain, par, wait};
 use gurvoke::examples;
 use gurvoke::hex::hex;
 use gurvoke::rehearsal::Rehearsal;
@@ -27,7 +27,7 @@ macro_rules! station {
     };
 }
 
-fn all() -> [Station; 14] {
+fn all() -> [Station; 15] {
     [
         station!("station_1", STATION_1),
         station!("station_2", STATION_2),
@@ -50,6 +50,8 @@ fn all() -> [Station; 14] {
         // Variables 0 and 31 are contested. What contends for 0 stands in a MAINTAIN, and when this
         // is violated the name moves up to 31.
         station!("the_name_moves", first_and_last()),
+        // 32 variables, all unknown at first. Each WAIT stays until its own variable is known.
+        station!("gaps", three_waits()),
     ]
 }
 
@@ -71,6 +73,12 @@ fn first_and_last() -> Vec<u8> {
         goal(2, 7),
     ]);
     file(32, 0, &root)
+}
+
+/// WAITs on the first two of 32 variables, and on the last.
+fn three_waits() -> Vec<u8> {
+    let waits = [equals(0, 1), differs(1, 1), equals(31, 1)].map(wait);
+    file(32, 0, &par(waits.to_vec()))
 }
 
 /// Each station with the marked parts, and without them: then the text lacks their lines.

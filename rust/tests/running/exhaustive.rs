@@ -9,9 +9,11 @@ use gurvoke::parts::{Condition, Label, Part};
 use gurvoke::record::{Phase, RECORD_LEN};
 use gurvoke::rng::Rng;
 use gurvoke::runs::Call;
+use gurvoke::sizes::UNKNOWN_VALUE;
 use gurvoke::unfolding::{Program, Run};
 
-use crate::harness::{of_all_executives, Board, Tally};
+use crate::harness::{Board, NO_VALUES};
+use crate::tally::{of_all_executives, Tally};
 
 /// The first executive gets every program, each other one in so many. The number has no factor in
 /// common with those of leaves, conditions and contenders, so that a share meets all of them.
@@ -24,16 +26,12 @@ struct Alphabet {
     conditions: [Condition; 4],
 }
 
-/// Two variables with values 0 and 1, of which the second has always the other value than the
-/// first; one clock with the limit 1.
+/// Two variables with values 0 and 1, the first of which can be unknown; one clock with the limit 1.
 fn alphabet() -> Alphabet {
-    let waits = [equals(0, 1), at_least(0, 1), below(0, 1)].map(wait);
+    let conditions = [equals(0, 1), differs(0, 1), at_least(0, 1), below(0, 1)];
     let mut leaves = vec![goal(0, 0), goal(0, 1), goal(1, 0), goal(1, 1), start(0)];
-    leaves.extend(waits);
-    Alphabet {
-        leaves,
-        conditions: [equals(0, 1), differs(0, 1), at_least(0, 1), below(0, 1)],
-    }
+    leaves.extend(conditions.map(wait));
+    Alphabet { leaves, conditions }
 }
 
 /// One clock with the limits 1 and 2, and nothing else.
@@ -102,8 +100,11 @@ fn offer(time: u32) -> Call {
     Call::Offer { time, room: 2 }
 }
 
-/// The values of both variables, by that of the first.
-fn values(first: u8) -> [u8; 2] {
+/// What an estimate of the alphabet says of the first variable.
+const FIRST_BYTES: [u8; 3] = [0, 1, UNKNOWN_VALUE];
+
+/// The estimate that says this of the first variable. The second has another value than the first.
+fn estimate(first: u8) -> [u8; 2] {
     [first, u8::from(first == 0)]
 }
 
@@ -166,25 +167,26 @@ fn every_list_of_four_calls() {
         offer(0),
         offer(1),
         offer(2),
-        settle(&values(0)),
-        settle(&values(1)),
-        settle(&values(251)),
+        settle(&estimate(0)),
+        settle(&estimate(1)),
+        settle(&estimate(UNKNOWN_VALUE)),
+        settle(&estimate(NO_VALUES.end - 1)),
     ];
     let [ones, twos, threes, _] = alphabet().programs();
     let programs = [ones, twos, threes].concat();
-    assert_eq!(programs.len(), 8 + 7 * 8 + 7 * 7 * 8 + 6 * 8 * 8);
+    assert_eq!(programs.len(), 9 + 7 * 9 + 7 * 7 * 9 + 6 * 9 * 9);
     let mut counts = Vec::new();
     for (executive, programs) in shares(&programs) {
         let mut tally = Tally::default();
         begin_all(
             executive,
             &programs,
-            &[values(0), values(1)],
+            &FIRST_BYTES.map(estimate),
             |rng, board, run| every_list(rng, &mut tally, (&board, &run), &calls, 4),
         );
         // Each list that is not empty ends with a call of its own.
-        let lists = 6 + 6 * 6 + 6 * 6 * 6 + 6 * 6 * 6 * 6;
-        assert_eq!(tally.calls(), 2 * lists * programs.len() as u64);
+        let lists = 7 + 7 * 7 + 7 * 7 * 7 + 7 * 7 * 7 * 7;
+        assert_eq!(tally.calls(), 3 * lists * programs.len() as u64);
         counts.push(tally.counts());
     }
     assert_counts(
@@ -203,10 +205,10 @@ fn every_cycle(rng: &mut Rng, tally: &mut Tally, (board, run): (&Board, &Run), c
         let mut board = board.clone();
         let mut run = run.clone();
         tally.call(rng, (&mut board, &mut run), &offer(time));
-        for first in 0..=1 {
+        for first in FIRST_BYTES {
             let mut board = board.clone();
             let mut run = run.clone();
-            tally.call(rng, (&mut board, &mut run), &settle(&values(first)));
+            tally.call(rng, (&mut board, &mut run), &settle(&estimate(first)));
             every_cycle(rng, tally, (&board, &run), cycles - 1);
         }
     }
@@ -227,10 +229,10 @@ fn every_list_of_five_cycles() {
 #[test]
 fn every_list_of_three_cycles() {
     let [_, _, threes, fours] = alphabet().programs();
-    let pairs = 8 * 7 * 8;
+    let pairs = 9 * 7 * 9;
     assert_eq!(
         fours.len(),
-        7 * threes.len() + 6 * 2 * pairs + 2 * 8 * 8 * 8
+        7 * threes.len() + 6 * 2 * pairs + 2 * 9 * 9 * 9
     );
     check_cycles("every_list_of_three_cycles", &fours, 3);
 }
@@ -239,7 +241,7 @@ fn check_cycles(test: &str, programs: &[Part], cycles: usize) {
     check_accepted(
         test,
         programs,
-        &[values(0), values(1)],
+        &FIRST_BYTES.map(estimate),
         |rng, tally, (board, run)| every_cycle(rng, tally, (&board, &run), cycles),
     );
 }
@@ -279,7 +281,7 @@ fn every_pace(rng: &mut Rng, tally: &mut Tally, (board, run): (&Board, &Run), cy
         let mut run = run.clone();
         let time = run.time + seconds;
         tally.call(rng, (&mut board, &mut run), &offer(time));
-        tally.call(rng, (&mut board, &mut run), &settle(&values(0)));
+        tally.call(rng, (&mut board, &mut run), &settle(&estimate(0)));
         every_pace(rng, tally, (&board, &run), cycles - 1);
     }
 }
@@ -297,7 +299,7 @@ fn every_restart() {
     check_accepted(
         "every_restart",
         &programs,
-        &[values(0)],
+        &[estimate(0)],
         |rng, tally, (board, run)| every_pace(rng, tally, (&board, &run), 5),
     );
 }
@@ -332,11 +334,11 @@ fn with(list: &[Part], one: Part) -> Vec<Part> {
     longer
 }
 
-/// Every estimate in which each of three variables has a value that some GOALs want, or none wants:
-/// so each contest ends or goes on.
+/// Every estimate in which each of three variables has a value that some GOALs want, has one that none
+/// wants, or is unknown: so each contest ends or goes on.
 fn estimates() -> impl Iterator<Item = [u8; 3]> {
-    let values = |bits: usize| [bits & 1, bits >> 1 & 1, bits >> 2];
-    (0..8).map(move |bits| values(bits).map(|bit| [0, 2][bit]))
+    let lots = |number: usize| [number / 9, number / 3 % 3, number % 3];
+    (0..27).map(move |number| lots(number).map(|lot| [0, 2, UNKNOWN_VALUE][lot]))
 }
 
 /// An offer, every settling, and the offer after it.
@@ -354,7 +356,7 @@ fn settle_contest(rng: &mut Rng, tally: &mut Tally, (mut board, mut run): (Board
 }
 
 /// Every PAR of up to four contenders, so that up to two variables are contested, before and after
-/// every settling, with the MAINTAINs broken and not.
+/// every settling, with the MAINTAINs violated, satisfied and open.
 #[test]
 fn every_contest() {
     let programs = contests(4);
@@ -365,7 +367,7 @@ fn every_contest() {
     check_accepted(
         "every_contest",
         &programs,
-        &[[0, 0, 0], [0, 0, 1]],
+        &[[0, 0, 0], [0, 0, 1], [0, 0, UNKNOWN_VALUE]],
         settle_contest,
     );
 }

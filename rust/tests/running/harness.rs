@@ -1,20 +1,25 @@
 //! Calls of an executive that are compared with the unfolding in every byte.
 
-use gurvoke::answers::{self, ANSWERED, CONTESTED, DONE, NO_VARIABLE};
-use gurvoke::counts::{named, Counts};
+use std::ops::Range;
+
+use gurvoke::answers::{self, ANSWERED, DONE, NO_VARIABLE};
 use gurvoke::executive::Executive;
 use gurvoke::hex::hex;
 use gurvoke::lent::Lent;
 use gurvoke::model;
-use gurvoke::record::{Phase, FINISHED, PHASE, RECORD_LEN};
-use gurvoke::refusals::{BUFFER_TOO_SHORT, NOTHING_AT_WORK};
+use gurvoke::record::{Phase, FINISHED, MARKS, PHASE, RECORD_LEN, STARTED, STARTS};
+use gurvoke::refusals::BUFFER_TOO_SHORT;
 use gurvoke::rng::Rng;
-use gurvoke::runs::{Call, StartCounts, Starts};
-use gurvoke::sizes::MAX_VARIABLES;
+use gurvoke::runs::Call;
+use gurvoke::sizes::{MAX_CLOCKS, MAX_VALUE, MAX_VARIABLES, TIME_LEN, UNKNOWN_VALUE};
 use gurvoke::unfolding::{Offer, Program, Progress, Run};
 
 /// The last variable of a program with as many as allowed.
 pub const LAST_VARIABLE: u8 = MAX_VARIABLES as u8 - 1;
+
+/// The bytes that no estimate has: they are no values, and none of them says that a variable is
+/// unknown.
+pub const NO_VALUES: Range<u8> = MAX_VALUE as u8 + 1..UNKNOWN_VALUE;
 
 /// The table of an accepted file.
 pub fn table_of(file: &[u8]) -> Vec<u8> {
@@ -224,110 +229,6 @@ impl Board {
     }
 }
 
-/// What the first executive came to, and what each other one did: these are given the same calls.
-pub fn of_all_executives(counts: &[Counts]) -> Counts {
-    let (first, others) = counts.split_first().expect("an executive");
-    let mut all = first.clone();
-    for other in others {
-        assert_eq!(
-            other, &others[0],
-            "the plain executives are given the same calls"
-        );
-    }
-    for (what, number) in &others[0] {
-        all.push((format!("{what} (each plain executive)"), *number));
-    }
-    all
-}
-
-/// How many offers found contested variables, and which of these they named.
-#[derive(Default)]
-struct Contested {
-    offers: u64,
-    /// Those of them with more than one.
-    several: u64,
-    /// Those of them that named the first variable, and the last there can be.
-    first: u64,
-    last: u64,
-}
-
-impl Contested {
-    fn note(&mut self, offer: &Offer) {
-        let variables = offer.goals.iter().filter(|&&byte| byte == CONTESTED);
-        self.offers += u64::from(offer.named.is_some());
-        self.several += u64::from(variables.count() > 1);
-        self.first += u64::from(offer.named == Some(0));
-        self.last += u64::from(offer.named == Some(LAST_VARIABLE));
-    }
-}
-
-/// How often each answer was given.
-#[derive(Default)]
-pub struct Tally {
-    refusals: [u64; NOTHING_AT_WORK as usize + 1],
-    pub offers: u64,
-    contested: Contested,
-    pub running: u64,
-    pub finished: u64,
-    starts: StartCounts,
-}
-
-impl Tally {
-    /// Makes a call, compares it, and notes what it came to.
-    pub fn call(
-        &mut self,
-        rng: &mut Rng,
-        (board, run): (&mut Board, &mut Run),
-        call: &Call,
-    ) -> Given {
-        let starts = Starts::of_settling(run);
-        let given = board.call(rng, run, call);
-        if matches!(given, Given::Settled(_)) {
-            self.starts.note(&starts);
-        }
-        self.note(&given);
-        given
-    }
-
-    fn note(&mut self, given: &Given) {
-        match given {
-            Given::Refused(number) => self.refusals[*number as usize] += 1,
-            Given::Offered(offer) => {
-                self.offers += 1;
-                self.contested.note(offer);
-            }
-            Given::Settled(Progress::Running) => self.running += 1,
-            Given::Settled(Progress::Finished) => self.finished += 1,
-        }
-    }
-
-    /// All calls noted.
-    pub fn calls(&self) -> u64 {
-        let refused: u64 = self.refusals.iter().sum();
-        refused + self.offers + self.running + self.finished
-    }
-
-    /// What was counted, as the list of counts names it.
-    pub fn counts(&self) -> Counts {
-        let contested = &self.contested;
-        let mut counts = named([
-            ("calls", self.calls()),
-            ("offers", self.offers),
-            ("offers with a contested variable", contested.offers),
-            ("offers with several contested variables", contested.several),
-            ("offers that name variable 0", contested.first),
-            ("offers that name variable 31", contested.last),
-            ("settlings that tell running", self.running),
-            ("settlings that tell finished", self.finished),
-        ]);
-        counts.extend(self.starts.counts());
-        for (refusal, count) in self.refusals.iter().enumerate() {
-            counts.push((format!("refusals {refusal}"), *count));
-        }
-        counts
-    }
-}
-
 /// Whether a run is finished.
 pub fn is_over(run: &Run) -> bool {
     run.phase == Phase::Finished
@@ -410,4 +311,25 @@ impl SteppedRun<'_> {
     pub fn record(&self) -> &[u8] {
         &self.board.record.content()[..RECORD_LEN]
     }
+}
+
+/// Expects that the first clocks were started at these times, the last start of each, and that no
+/// other one is started.
+pub fn assert_starts(run: &SteppedRun, starts: &[Option<u32>]) {
+    let mut flags = [0; MAX_CLOCKS];
+    let mut times = [0; MAX_CLOCKS * TIME_LEN];
+    for (clock, start) in starts.iter().enumerate() {
+        flags[clock] = u8::from(start.is_some());
+        let bytes = start.unwrap_or(0).to_le_bytes();
+        times[clock * TIME_LEN..][..TIME_LEN].copy_from_slice(&bytes);
+    }
+    let case = run.board.case();
+    assert_eq!(run.record()[STARTED..STARTS], flags, "{case}");
+    assert_eq!(run.record()[STARTS..MARKS], times, "{case}");
+}
+
+/// Expects that the first parts have these marks.
+pub fn assert_marks<const PARTS: usize>(run: &SteppedRun, marks: [u8; PARTS]) {
+    let case = run.board.case();
+    assert_eq!(run.record()[MARKS..MARKS + PARTS], marks, "{case}");
 }

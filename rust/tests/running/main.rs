@@ -7,5 +7,7 @@ mod mars_entry;
 mod random;
 mod records;
 mod restarts;
+mod silence;
 mod stations;
 mod tables;
+mod tally;

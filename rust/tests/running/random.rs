@@ -9,11 +9,12 @@ use gurvoke::model;
 use gurvoke::record::RECORD_LEN;
 use gurvoke::refusals::{BUFFER_TOO_SHORT, ESTIMATE_NOT_ALLOWED};
 use gurvoke::rng::Rng;
-use gurvoke::runs::{self, Caller};
+use gurvoke::runs::{self, Caller, SilenceCounts, Silences};
 use gurvoke::sizes::{MAX_DEPTH, MAX_PARTS};
 use gurvoke::unfolding::{Program, Run};
 
-use crate::harness::{is_over, Board, Given, Tally};
+use crate::harness::{is_over, Board, Given};
+use crate::tally::Tally;
 
 /// The first executive gets every run, each other one in this many.
 const SHARE: usize = 10;
@@ -35,6 +36,7 @@ struct Seen {
     /// Those of them in which a clock came due inside it, and with how many at three deep or more.
     doubtful: u64,
     doubtful_deep: u64,
+    silences: SilenceCounts,
 }
 
 impl Seen {
@@ -53,7 +55,7 @@ impl Seen {
         let findings = runs::findings(run);
         self.violated += u64::from(findings.violated > 0);
         self.doubtful += u64::from(findings.doubtful > 0);
-        self.doubtful_deep += u64::from(findings.doubtful >= 3);
+        self.doubtful_deep += u64::from(findings.doubtful >= runs::DEEP);
     }
 
     /// What was counted, as the list of counts names it.
@@ -72,20 +74,31 @@ impl Seen {
             ),
             ("such offers three parts deep or more", self.doubtful_deep),
         ]);
-        [own, self.tally.counts()].concat()
+        [own, self.silences.counts(), self.tally.counts()].concat()
     }
 }
 
 /// Runs so many programs on the first executive, and a share on each other one, and compares what
 /// the first came to with the list of counts.
 fn check_runs(test: &str, seed: u64, count: usize, program: impl Fn(&mut Rng) -> Vec<u8>) {
+    check_runs_by(Caller::new, test, seed, count, program);
+}
+
+/// The same with the calls that such a caller makes.
+fn check_runs_by(
+    caller: fn(&mut Rng, &Program) -> Caller,
+    test: &str,
+    seed: u64,
+    count: usize,
+    program: impl Fn(&mut Rng) -> Vec<u8>,
+) {
     for (place, &executive) in ALL.iter().enumerate() {
         let count = if place == 0 { count } else { count / SHARE };
         let mut rng = Rng::new(seed);
         let mut seen = Seen::default();
         for _ in 0..count {
             let file = program(&mut rng);
-            check_run(&mut rng, &mut seen, executive, &file);
+            check_run(&mut rng, &mut seen, executive, &file, caller);
         }
         assert_eq!(seen.runs, count as u64);
         if place == 0 {
@@ -95,7 +108,13 @@ fn check_runs(test: &str, seed: u64, count: usize, program: impl Fn(&mut Rng) ->
 }
 
 /// One run from its beginning.
-fn check_run(rng: &mut Rng, seen: &mut Seen, executive: &'static Executive, file: &[u8]) {
+fn check_run(
+    rng: &mut Rng,
+    seen: &mut Seen,
+    executive: &'static Executive,
+    file: &[u8],
+    caller: fn(&mut Rng, &Program) -> Caller,
+) {
     let program = Program::read(file).unwrap_or_else(|number| panic!("{number}: {}", hex(file)));
     let record_len = RECORD_LEN + rng.pick(&[0, 0, 1, 40]);
     let mut board = Board::new(rng, executive, file, record_len);
@@ -107,7 +126,8 @@ fn check_run(rng: &mut Rng, seen: &mut Seen, executive: &'static Executive, file
     let first = runs::first_estimate(rng, &program);
     let begun = board.begin(rng, &program, &first);
     let mut run = begun.expect("a record that is long enough");
-    let mut caller = Caller::new(rng, &program);
+    let mut caller = caller(rng, &program);
+    let mut silences = Silences::default();
     let mut calls = rng.between(0, 50);
     while calls > 0 {
         let call = caller.next_call(rng, &run);
@@ -115,6 +135,7 @@ fn check_run(rng: &mut Rng, seen: &mut Seen, executive: &'static Executive, file
         if let Given::Offered(offer) = &given {
             caller.note_goals(&offer.goals);
             seen.note_offer(&run);
+            silences.note_offer(&run, &mut seen.silences);
         }
         // Few calls are enough to see that a run is over.
         calls = if is_over(&run) { calls.min(4) } else { calls } - 1;
@@ -149,6 +170,19 @@ fn contending_programs() {
 #[test]
 fn restarting_programs() {
     check_runs("restarting_programs", 306, 20_000, runs::restarting_program);
+}
+
+/// Programs made for sensors that fall silent just as a condition would break and as a clock comes due,
+/// and come back.
+#[test]
+fn silent_programs() {
+    check_runs_by(
+        Caller::falling_silent,
+        "silent_programs",
+        307,
+        30_000,
+        runs::silent_program,
+    );
 }
 
 /// Small programs, in which a run comes to most places.

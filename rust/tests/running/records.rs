@@ -3,6 +3,7 @@
 
 mod changes;
 mod clauses;
+mod estimates;
 mod unreached;
 
 use gurvoke::builder::{

@@ -10,7 +10,7 @@ use gurvoke::builder::{
     at_least, below, choice, equals, file, goal, maintain, par, repeat, seq, start, wait,
 };
 use gurvoke::parts::Part;
-use gurvoke::record::{start_place, MARKS, RECORD_LEN, STARTED, STARTS};
+use gurvoke::record::{start_place, RECORD_LEN};
 use gurvoke::refusals::{
     BUFFER_TOO_SHORT, ESTIMATE_NOT_ALLOWED, RUN_FINISHED, TIME_BEFORE_LAST, WRONG_PHASE,
 };
@@ -18,7 +18,7 @@ use gurvoke::runs::Call;
 use gurvoke::sizes::{MAX_CLOCKS, TIME_LEN};
 use gurvoke::stations::STATION_7;
 
-use crate::harness::{step_through, SteppedRun};
+use crate::harness::{assert_marks, assert_starts, step_through, SteppedRun, NO_VALUES};
 
 /// No goal, as a goal byte.
 const NO: u8 = NO_GOAL;
@@ -43,29 +43,9 @@ fn last_cycle(run: &mut SteppedRun, time: u32) {
     run.finishes(&[0]);
 }
 
-/// Expects that the first clocks were started at these times, the last start of each, and that no
-/// other one is started.
-fn assert_starts(run: &SteppedRun, starts: &[Option<u32>]) {
-    let mut flags = [0; MAX_CLOCKS];
-    let mut times = [0; MAX_CLOCKS * TIME_LEN];
-    for (clock, start) in starts.iter().enumerate() {
-        flags[clock] = u8::from(start.is_some());
-        let bytes = start.unwrap_or(0).to_le_bytes();
-        times[clock * TIME_LEN..][..TIME_LEN].copy_from_slice(&bytes);
-    }
-    let case = run.board.case();
-    assert_eq!(run.record()[STARTED..STARTS], flags, "{case}");
-    assert_eq!(run.record()[STARTS..MARKS], times, "{case}");
-}
-
 /// Expects that clock 0, and no other one, is started, at this time.
 fn assert_start(run: &SteppedRun, start: u32) {
     assert_starts(run, &[Some(start)]);
-}
-
-fn assert_marks<const PARTS: usize>(run: &SteppedRun, marks: [u8; PARTS]) {
-    let case = run.board.case();
-    assert_eq!(run.record()[MARKS..MARKS + PARTS], marks, "{case}");
 }
 
 /// Two parts of a PAR, in either order.
@@ -249,7 +229,7 @@ fn refused_calls_start_nothing() {
     };
     let offer = |time, room| Call::Offer { time, room };
     let refuse_settlings = |run: &mut SteppedRun| {
-        for estimate in [&[251][..], &[255], &[], &[0, 0]] {
+        for estimate in [&[NO_VALUES.start][..], &[NO_VALUES.end - 1], &[], &[0, 0]] {
             run.refused(settle(estimate), ESTIMATE_NOT_ALLOWED);
         }
         run.refused(offer(30, 1), WRONG_PHASE);

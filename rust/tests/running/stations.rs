@@ -15,13 +15,13 @@ use gurvoke::refusals::{
     WRONG_PHASE,
 };
 use gurvoke::runs::Call;
-use gurvoke::sizes::{MAX_CLOCKS, MAX_PARTS, MAX_VALUE, MAX_VARIABLES, TIME_LEN};
+use gurvoke::sizes::{MAX_CLOCKS, MAX_PARTS, MAX_VALUE, MAX_VARIABLES, TIME_LEN, UNKNOWN_VALUE};
 use gurvoke::stations::{
     repeats_above_goal, rows_of_repeats_above_goal, STATION_1, STATION_10, STATION_2, STATION_3,
     STATION_4, STATION_5, STATION_6, STATION_7, STATION_8,
 };
 
-use crate::harness::step_through;
+use crate::harness::{step_through, NO_VALUES};
 
 /// Times for stations that give none.
 const TIMES: [u32; 8] = [0, 1, 4, 5, 6, 1000, u32::MAX - 1, u32::MAX];
@@ -36,11 +36,11 @@ fn station_1() {
     });
 }
 
-/// Any settling finishes: with every estimate, at any time.
+/// Any settling finishes: with every estimate, an unknown variable too, at any time.
 #[test]
 fn station_2() {
     for time in TIMES {
-        for value in 0..=MAX_VALUE as u8 {
+        for value in (0..=MAX_VALUE as u8).chain([UNKNOWN_VALUE]) {
             step_through(&STATION_2, &[2], |run| {
                 run.offer(time, &[0xFF]);
                 run.finishes(&[value]);
@@ -204,7 +204,7 @@ fn refusals_beside_the_examples() {
 fn the_earlier_refusal_wins() {
     let bad_offer = Call::Offer { time: 0, room: 0 };
     let bad_estimate = Call::Settle {
-        estimate: vec![251, 0],
+        estimate: vec![NO_VALUES.start, 0],
     };
     step_through(&STATION_1, &[0], |run| {
         run.refused(bad_estimate.clone(), WRONG_PHASE);

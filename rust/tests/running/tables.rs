@@ -18,7 +18,7 @@ use gurvoke::sizes::{Sizes, MAX_DEPTH, MAX_PARTS};
 use gurvoke::stations::STATION_10;
 use gurvoke::unfolding::{Program, Run};
 
-use crate::harness::{table_of, Board};
+use crate::harness::{table_of, Board, NO_VALUES};
 
 /// A program with every kind, a PAR and a CHOICE with different branches among them.
 fn each_kind() -> Vec<u8> {
@@ -249,10 +249,10 @@ fn tables_cut_short_or_longer() {
 fn no_table_comes_first() {
     let short = [7; RECORD_LEN - 1];
     for &executive in ALL {
-        let begun = begin(executive, &NO_TABLE, &[251, 0, 0], &short);
+        let begun = begin(executive, &NO_TABLE, &[NO_VALUES.start, 0, 0], &short);
         assert_eq!((begun.0, &begun.1[..]), (NOT_A_TABLE, &short[..]));
         let offer = Call::Offer { time: 0, room: 0 };
-        let estimate = vec![251];
+        let estimate = vec![NO_VALUES.start];
         for wrong in [offer, Call::Settle { estimate }] {
             let outcome = call(executive, &NO_TABLE, &short, wrong);
             assert_eq!((outcome.0, &outcome.1[..]), (NOT_A_TABLE, &short[..]));

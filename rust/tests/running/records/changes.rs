@@ -4,15 +4,15 @@ use gurvoke::cases::Shape;
 use gurvoke::counts::{assert_counts, named, Counts};
 use gurvoke::executive::{Executive, ALL};
 use gurvoke::hex::hex;
-use gurvoke::record::{MARKS, RECORD_LEN};
+use gurvoke::record::{ESTIMATE, MARKS, RECORD_LEN};
 use gurvoke::rng::Rng;
 use gurvoke::runs;
-use gurvoke::sizes::{MAX_DEPTH, MAX_PARTS};
+use gurvoke::sizes::{MAX_DEPTH, MAX_PARTS, MAX_VARIABLES, UNKNOWN_VALUE};
 use gurvoke::states;
 use gurvoke::unfolding::Program;
 
 use super::{check_record, program_file, reached};
-use crate::harness::of_all_executives;
+use crate::tally::of_all_executives;
 
 /// Every byte of records of runs changed: the marks to a few values, all before them to every one.
 #[test]
@@ -60,12 +60,14 @@ fn any_allowed_records() {
 /// So many of these records on one executive, and what was counted.
 fn check_allowed_records(executive: &'static Executive, count: u64) -> Counts {
     let mut rng = Rng::new(604);
+    let mut unknown = 0;
     let mut accepted = 0;
     let mut broken = 0;
     for _ in 0..count {
         let file = runs::program(&mut rng);
         let program = Program::read(&file).expect("a valid program");
         let state = runs::any_state(&mut rng, &program);
+        unknown += u64::from(state.estimate.contains(&UNKNOWN_VALUE));
         let mut record = state.record();
         let read = states::read(&program, &record);
         let same = read.is_some_and(|read| read.record() == record);
@@ -79,17 +81,19 @@ fn check_allowed_records(executive: &'static Executive, count: u64) -> Counts {
     }
     named([
         ("allowed records", count),
+        ("allowed records with an unknown variable", unknown),
         ("calls accepted", accepted),
         ("records that a change breaks", broken),
     ])
 }
 
-/// Changes one or two bytes, mostly marks of the program's own parts.
+/// Changes one or two bytes, mostly marks of the program's own parts, or an estimate's byte.
 fn damage_record(rng: &mut Rng, record: &mut [u8], program: &Program) {
     for _ in 0..rng.between(1, 2) {
         let part = MARKS + rng.below(program.sizes.parts);
+        let variable = ESTIMATE + rng.below(MAX_VARIABLES);
         let any = rng.below(RECORD_LEN);
-        let place = rng.pick(&[part, part, part, any]);
+        let place = rng.pick(&[part, part, part, variable, any]);
         record[place] = match rng.below(4) {
             0 => record[place].wrapping_add(1),
             _ => record[place] ^ 1,

@@ -8,12 +8,12 @@ use gurvoke::record::{
 use gurvoke::refusals::RECORD_NOT_ALLOWED;
 use gurvoke::rng::Rng;
 use gurvoke::runs::Call;
-use gurvoke::sizes::{MAX_CLOCKS, MAX_PARTS, MAX_VALUE, MAX_VARIABLES, TIME_LEN};
+use gurvoke::sizes::{MAX_CLOCKS, MAX_PARTS, MAX_VARIABLES, TIME_LEN, UNKNOWN_VALUE};
 use gurvoke::states;
 use gurvoke::unfolding::Program;
 
 use super::{mark, program_file, reached, unmark, PARTS};
-use crate::harness::{table_of, Board};
+use crate::harness::{table_of, Board, NO_VALUES};
 
 /// An offer and a settling that nothing but the record can stand against.
 fn two_calls() -> [Call; 2] {
@@ -104,7 +104,7 @@ fn values_not_named() {
             break_clause("mark", any, |record| record[MARKS + part] = value);
         }
     }
-    for value in MAX_VALUE as u8 + 1..=255 {
+    for value in NO_VALUES {
         for variable in 0..2 {
             break_clause("estimate", any, |record| {
                 record[ESTIMATE + variable] = value
@@ -115,7 +115,7 @@ fn values_not_named() {
 
 #[test]
 fn entries_beyond_the_sizes() {
-    for value in [1, 255] {
+    for value in [1, UNKNOWN_VALUE] {
         for variable in 2..MAX_VARIABLES {
             break_clause("beyond V", any, |record| {
                 record[ESTIMATE + variable] = value
@@ -271,7 +271,7 @@ fn a_record_not_allowed_comes_first() {
         for &executive in ALL {
             let mut board = Board::holding(&mut rng, executive, &table_of(&file), &record);
             let offer = Call::Offer { time: 0, room: 0 };
-            let estimate = vec![251];
+            let estimate = vec![NO_VALUES.start];
             board.assert_refused(&mut rng, &offer, RECORD_NOT_ALLOWED);
             board.assert_refused(&mut rng, &Call::Settle { estimate }, RECORD_NOT_ALLOWED);
         }

@@ -8,6 +8,7 @@ use gurvoke::record::{
 };
 use gurvoke::rng::Rng;
 use gurvoke::runs::Call;
+use gurvoke::sizes::UNKNOWN_VALUE;
 use gurvoke::states;
 use gurvoke::unfolding::{Program, Progress};
 
@@ -39,14 +40,16 @@ fn settle_record(file: &[u8], record: &[u8], estimate: u8) -> Vec<Vec<u8>> {
     ALL.iter().map(settle).collect()
 }
 
-/// Phase 1, the condition holds, and yet MAINTAIN's child is unmarked: "Any other marked composite
-/// with nothing marked inside after this ends too", so it ends and its next begins.
+/// Phase 1, the condition holds or is open, and yet MAINTAIN's child is unmarked: "Any other marked
+/// composite with nothing marked inside after this ends too", so it ends and its next begins.
 #[test]
 fn a_maintain_hollow_for_no_reason() {
-    let (file, record) = held_record(0, [1, 1, 0, 0]);
-    for after in settle_record(&file, &record, 0) {
-        assert_eq!(after[PHASE], WAITING);
-        assert_eq!(after[MARKS..MARKS + 4], [1, 0, 0, 1]);
+    for estimate in [0, UNKNOWN_VALUE] {
+        let (file, record) = held_record(estimate, [1, 1, 0, 0]);
+        for after in settle_record(&file, &record, estimate) {
+            assert_eq!(after[PHASE], WAITING);
+            assert_eq!(after[MARKS..MARKS + 4], [1, 0, 0, 1]);
+        }
     }
 }
 

@@ -13,11 +13,8 @@ wide-requires c κs = search needs
 returns : tie.Need-returns
 returns c = search estimate-other
 
-cast-all-at-most : tie.Need-cast-all-at-most
-cast-all-at-most c = search needs
-
-all-at-most-requires : tie.Need-all-at-most-requires
-all-at-most-requires c κs = search needs
+estimate-bytes-allowed-requires : tie.Need-estimate-bytes-allowed-requires
+estimate-bytes-allowed-requires c κs = search needs
 
 returns-2 : tie.Need-returns-2
 returns-2 c = search estimate-made
@@ -25,10 +22,4 @@ returns-2 c = search estimate-made
 pub estimate-allowed-spec : {M : Type 1} → statement M
 estimate-allowed-spec =
     tie.close
-    (tie.spec
-    variables-requires
-    wide-requires
-    returns
-    cast-all-at-most
-    all-at-most-requires
-    returns-2)
+    (tie.spec variables-requires wide-requires returns estimate-bytes-allowed-requires returns-2)

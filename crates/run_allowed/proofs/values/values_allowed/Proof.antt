@@ -37,14 +37,11 @@ add-all-at-most-2 c = search needs
 all-at-most-requires-2 : tie.Need-all-at-most-requires-2
 all-at-most-requires-2 c κs = search marks-long
 
-add-all-at-most-3 : tie.Need-add-all-at-most-3
-add-all-at-most-3 c = search needs
+add-estimate-bytes-allowed : tie.Need-add-estimate-bytes-allowed
+add-estimate-bytes-allowed c = search needs
 
-cast-all-at-most : tie.Need-cast-all-at-most
-cast-all-at-most c = search needs
-
-all-at-most-requires-3 : tie.Need-all-at-most-requires-3
-all-at-most-requires-3 c κs = search needs
+estimate-bytes-allowed-requires : tie.Need-estimate-bytes-allowed-requires
+estimate-bytes-allowed-requires c κs = search needs
 
 returns : tie.Need-returns
 returns c = search values-made
@@ -64,7 +61,6 @@ values-allowed-spec =
     all-at-most-requires
     add-all-at-most-2
     all-at-most-requires-2
-    add-all-at-most-3
-    cast-all-at-most
-    all-at-most-requires-3
+    add-estimate-bytes-allowed
+    estimate-bytes-allowed-requires
     returns)

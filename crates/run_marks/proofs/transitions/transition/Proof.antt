@@ -9,8 +9,8 @@ use Rattle.run_marks.proofs.Judged.{goal-inside, goal-judged, wait-judg
 use Rattle.run_marks.proofs.transitions.transition.Statement.{statement}
 use Rattle.run_marks.proofs.transitions.transition.Tie as tie
 
-reached-requires : tie.Need-reached-requires
-reached-requires c κs = search goal-inside
+has-value-requires : tie.Need-has-value-requires
+has-value-requires c κs = search goal-inside
 
 ends-if-requires : tie.Need-ends-if-requires
 ends-if-requires c κs = search needs
@@ -77,7 +77,7 @@ pub transition-spec : {M : Type 1} → statement M
 transition-spec =
     tie.close
     (tie.spec
-    reached-requires
+    has-value-requires
     ends-if-requires
     last-time-requires
     satisfied-requires

@@ -1,7 +1,7 @@
--- `reached` meets its contract: the code compares what the definition compares, as wider numbers.
+-- `has_value` meets its contract: the code compares what the definition compares, as wider numbers.
 use borrow.Author.Needs.{needs}
-use Rattle.run_record.proofs.conditions.reached.Statement.{statement}
-use Rattle.run_record.proofs.conditions.reached.Tie as tie
+use Rattle.run_record.proofs.conditions.has_value.Statement.{statement}
+use Rattle.run_record.proofs.conditions.has_value.Tie as tie
 
 wide-requires : tie.Need-wide-requires
 wide-requires c κs = search needs
@@ -21,8 +21,8 @@ cast-result c = search needs
 returns : tie.Need-returns
 returns c = cc
 
-pub reached-spec : {M : Type 1} → statement M
-reached-spec =
+pub has-value-spec : {M : Type 1} → statement M
+has-value-spec =
     tie.close
     (tie.spec
     wide-requires
