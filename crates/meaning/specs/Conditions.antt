@@ -34,6 +34,7 @@ abbrev pub decided : Bool → Outcome
 decided true = Satisfied
 decided false = Violated
 
+-- "A condition over an unstarted clock is not satisfied. It is violated when its opposite is satisfied, so over an unstarted clock it is neither";
 -- "Testing a condition answers one of three: satisfied, violated, or open. Over an unknown variable it is open, as it already is over an unstarted
 -- clock" (document 02, R-4): what it answers where the variable or clock can be tested or cannot, and the test came out as b
 abbrev pub openUnless : Bool → Bool → Outcome

@@ -1,6 +1,6 @@
 // The numbers of the papers that stand for a limit, a width, "none" or "unknown", and the lengths and
-// places that follow from them; the definitions have theirs in specs/Sizes.antt and specs/Record.antt, and the
-// proofs hold the two together.
+// places that follow from them; the definitions have theirs in specs/Sizes.antt and specs/Record.antt,
+// and the proofs hold the two together.
 
 pub const MAX_PARTS: u8 = 200;
 
