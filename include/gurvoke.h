@@ -1,7 +1,8 @@
 /*
  * Gurvoke: the lander sequence executive.
  *
- * A program file holds a control program as document 01 lays down. Compiling it gives its location
+ * A program file holds a control program as document 01 lays down. A program may be typed as text
+ * too, as document 02 lays down; its program file comes out. Compiling a file gives its location
  * table, and decompiling the table gives the file back. A run of the table keeps its state in a
  * run record and proceeds in cycles: an offer (a time goes in, goals come out), then a settling (the
  * new estimate goes in). examples/lander.c is a complete run, examples/board.c a board's main loop,
@@ -17,8 +18,8 @@
  * What is kept
  *   Nothing, between calls: all that a run is stands in its record, which may be moved, stored and
  *   read back. No call keeps a pointer, allocates, or has memory of its own but the stack, of which
- *   it takes less than 2 KiB on x86-64 (docs/PERFORMANCE.md). The two functions that the library
- *   needs from elsewhere are memset and memcpy.
+ *   it takes less than 2 KiB on x86-64 (docs/PERFORMANCE.md); gurvoke_text alone may take far more, as
+ *   stands there. The two functions that the library needs from elsewhere are memset and memcpy.
  *
  * A record and its table
  *   A record belongs to the table with which its run began, and every later call of the run must have
@@ -36,9 +37,9 @@
  *   writes is in use by another. So several runs may share one table.
  *
  * Answers
- *   An answer below GURVOKE_ANSWERED is 0 (done: compile, decompile, begin) or the number of
+ *   An answer below GURVOKE_ANSWERED is 0 (done: text, compile, decompile, begin) or the number of
  *   a refusal. A refused call changes no byte of any buffer. Where several refusals apply, the
- *   order stands at each function. Buffers may hold any bytes: those that are no file, table,
+ *   order stands at each function. Buffers may hold any bytes: those that are no text, file, table,
  *   record or estimate are refused.
  */
 #ifndef GURVOKE_H
@@ -65,9 +66,11 @@ extern "C" {
  *      refused with 13. Callers of 2.0 need not change, unless they count on that refusal. The layout
  *      of files, tables and records is that of 2.0. A record may hold GURVOKE_UNKNOWN_VALUE in its
  *      estimate; a library of 2.0 refuses such a record with 10.
+ * 2.2  Programs typed as text: gurvoke_text, GURVOKE_MAX_TEXT and GURVOKE_NOT_A_TEXT are new. All else
+ *      is as in 2.1.
  */
 #define GURVOKE_VERSION_MAJOR 2
-#define GURVOKE_VERSION_MINOR 1
+#define GURVOKE_VERSION_MINOR 2
 
 /*
  * The most parts, variables and clocks of a program, the depth of its deepest part (the root has
@@ -117,7 +120,8 @@ extern "C" {
 #define GURVOKE_ROW (GURVOKE_OPERAND_PLACE + GURVOKE_OPERAND)
 #define GURVOKE_NO_PART 255
 
-/* The longest program file and the longest location table, in bytes. */
+/* The longest text, the longest program file and the longest location table, in bytes. */
+#define GURVOKE_MAX_TEXT 16384
 #define GURVOKE_MAX_FILE \
     (GURVOKE_HEADER + (GURVOKE_KIND + GURVOKE_OPERAND) * GURVOKE_MAX_PARTS)
 #define GURVOKE_MAX_TABLE (GURVOKE_HEADER + GURVOKE_ROW * GURVOKE_MAX_PARTS)
@@ -206,6 +210,7 @@ extern "C" {
 #define GURVOKE_RUN_FINISHED 14 /* the run is finished */
 #define GURVOKE_NOTHING_AT_WORK 15 /* after settling, root not ended, yet no leaf or deciding CHOICE
                                       marked (no such record is known) */
+#define GURVOKE_NOT_A_TEXT 16 /* text outside the grammar, or above GURVOKE_MAX_TEXT bytes */
 
 /*
  * Answers from here on are no refusals: of an offer GURVOKE_ANSWERED + the variable that it names, the
@@ -234,6 +239,21 @@ extern "C" {
  */
 #define GURVOKE_NO_GOAL 255
 #define GURVOKE_CONTESTED 254
+
+/*
+ * Assembles a program typed as text (docs/TEXT.md): writes its program file,
+ * GURVOKE_FILE_LENGTH(parts) bytes, to the start of `file`. Further bytes of `file` stay as they are.
+ * The number of parts is then the first byte of `file`; a buffer of GURVOKE_MAX_FILE bytes is long
+ * enough for any text. The text has no byte that ends it: its length counts. Answers 0 or a refusal:
+ * 16 first, whatever else is wrong, then 2, 5, 7 and 8, as for files.
+ *
+ * This call is for the desk, not for a small board: it calls itself for what stands inside brackets
+ * and after words, so that the stack that it takes depends on the text, a refused one too. On x86-64
+ * that is under 64 KiB for any run of brackets, but 1.7 MB for the worst text known, with 2,340 times
+ * `repeat(` after its sizes and colon. Call it from a thread with 2 MiB of stack or more, and hand
+ * boards the program file.
+ */
+uint32_t gurvoke_text(const uint8_t *text, size_t text_len, uint8_t *file, size_t file_len);
 
 /*
  * Compiles a program file: writes its location table, GURVOKE_TABLE_LENGTH(parts) bytes, to the

@@ -99,9 +99,7 @@ mod tests {
     fn each_refusal_but_the_last_has_its_example() {
         let numbers = refusals::ALL.iter().map(|(_, number)| *number);
         let with_example: Vec<u32> = all().iter().map(|(refusal, _)| *refusal).collect();
-        let expected: Vec<u32> = numbers
-            .filter(|&number| number != NOTHING_AT_WORK)
-            .collect();
+        let expected: Vec<u32> = numbers.filter(|&number| number < NOTHING_AT_WORK).collect();
         assert_eq!(with_example, expected);
     }
 }

@@ -26,6 +26,8 @@ pub mod runs;
 pub mod scripts;
 pub mod states;
 pub mod stations;
+pub mod text;
+pub mod typing;
 pub mod unfolding;
 
 interface::c_interface!(

@@ -239,7 +239,7 @@ fn program_listing(program: &Program) -> String {
 }
 
 /// Writes to the front of an output buffer, which must have room for all the bytes.
-fn write_front(bytes: &[u8], output: &mut [u8]) -> Result<(), u32> {
+pub(crate) fn write_front(bytes: &[u8], output: &mut [u8]) -> Result<(), u32> {
     let front = output.get_mut(..bytes.len()).ok_or(BUFFER_TOO_SHORT)?;
     front.copy_from_slice(bytes);
     Ok(())

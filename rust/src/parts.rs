@@ -142,6 +142,11 @@ pub struct Part {
 }
 
 impl Part {
+    /// How many parts there are, this one included.
+    pub fn size(&self) -> usize {
+        1 + self.children.iter().map(Part::size).sum::<usize>()
+    }
+
     /// How many parts stand one inside the other at the deepest place, this part included.
     pub fn depth(&self) -> usize {
         1 + self.children.iter().map(Part::depth).max().unwrap_or(0)

@@ -1,4 +1,5 @@
-//! The refusals of document 01, under the names that the proved code and the C header have for them.
+//! The refusals of documents 01 and 02, under the names that the proved code and the C header have for
+//! them.
 
 /// Declares each refusal, and the list of all.
 macro_rules! refusals {
@@ -41,4 +42,6 @@ refusals! {
     RUN_FINISHED = 14;
     /// After the settling the root has not ended, yet no leaf or deciding CHOICE is marked.
     NOTHING_AT_WORK = 15;
+    /// The text is outside the grammar, or too long.
+    NOT_A_TEXT = 16;
 }

@@ -1,4 +1,4 @@
-//! What the program `rehearse` prints for a program file and a list of calls.
+//! What the program `rehearse` prints for a program file or text and a list of calls.
 //!
 //! It is written from document 01 and the format of a list of calls, and shares nothing with the
 //! crates. The calls are made on the unfolding, which knows no table: so a rehearsal by the table is
@@ -9,6 +9,7 @@ use std::fmt::Write;
 use crate::hex::hex;
 use crate::record::{self, time_at};
 use crate::refusals::RECORD_NOT_ALLOWED;
+use crate::text;
 use crate::unfolding::{Offer, Program, Progress, Run};
 
 /// Bytes of the longest line that can be a call, without its line feed.
@@ -17,12 +18,21 @@ pub const MAX_LINE: usize = 4095;
 /// What the program is given.
 #[derive(Clone, Debug)]
 pub struct Rehearsal {
-    /// The program file.
+    /// The program file, or the program as text.
     pub file: Vec<u8>,
     /// The list of calls, as text.
     pub calls: Vec<u8>,
     /// Whether the marked parts stand under each answer.
     pub with_parts: bool,
+}
+
+/// The program of an input, or the number of the first refusal that applies.
+fn program_in(input: &[u8]) -> Result<Program, u32> {
+    if text::is_text(input) {
+        Program::read(&text::file(input)?)
+    } else {
+        Program::read(input)
+    }
 }
 
 /// A call in a list of calls.
@@ -239,7 +249,7 @@ fn answer_line(answer: &Answer) -> String {
 impl Rehearsal {
     /// All that `rehearse` prints.
     pub fn transcript(&self) -> String {
-        let program = match Program::read(&self.file) {
+        let program = match program_in(&self.file) {
             Ok(program) => program,
             Err(refusal) => return format!("refused {refusal}\n"),
         };

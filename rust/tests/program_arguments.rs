@@ -1,4 +1,4 @@
-//! The arguments of `listing` and `rehearse`, and what the programs say where they cannot do what is asked.
+//! The arguments of `listing`, `assemble` and `rehearse`, and what the programs say where they cannot do what is asked.
 
 use std::fs::{self, File, OpenOptions};
 use std::path::Path;
@@ -9,6 +9,7 @@ use gurvoke::programs::{free_path, TemporaryFile};
 use gurvoke::stations::{STATION_10, STATION_10_LISTING};
 
 const LISTING_USAGE: &str = "usage: listing [PROGRAM]\n";
+const ASSEMBLE_USAGE: &str = "usage: assemble [TEXT]\n";
 const REHEARSE_USAGE: &str = "usage: rehearse PROGRAM [parts]\n";
 const LONG_NAME: &str = "the file name has more than 4095 bytes\n";
 const OUTPUT_LOST: &str = "standard output: No space left on device\n";
@@ -93,7 +94,9 @@ fn standard_input_that_cannot_be_read() {
     let file = TemporaryFile::holding(&STATION_10);
     let folder = || File::open(env::temp_dir()).expect("a folder can be opened");
     let error = "standard input: Is a directory\n";
-    assert_texts(program("listing", &[]).stdin(folder()), "", error);
+    for name in ["listing", "assemble"] {
+        assert_texts(program(name, &[]).stdin(folder()), "", error);
+    }
     assert_texts(
         program("rehearse", &[text_of(file.path())]).stdin(folder()),
         "",
@@ -115,10 +118,20 @@ fn files_that_cannot_be_read() {
     for (path, why) in cases {
         let name = text_of(path);
         let error = format!("{name}: {why}\n");
-        assert_texts(&mut program("listing", &[name]), "", &error);
-        assert_texts(&mut program("rehearse", &[name]), "", &error);
+        for program_name in ["listing", "assemble", "rehearse"] {
+            assert_texts(&mut program(program_name, &[name]), "", &error);
+        }
         assert_texts(&mut program("rehearse", &[name, "parts"]), "", &error);
     }
+}
+
+/// An output that takes no byte.
+fn full_output() -> File {
+    let mut options = OpenOptions::new();
+    options
+        .write(true)
+        .open("/dev/full")
+        .expect("a full output")
 }
 
 #[test]
@@ -128,20 +141,25 @@ fn standard_output_that_takes_nothing() {
     let names = [text_of(file.path()), text_of(refused.path()), "--help"];
     for name in names {
         for program_name in ["listing", "rehearse"] {
-            let full = OpenOptions::new()
-                .write(true)
-                .open("/dev/full")
-                .expect("a full output");
             let mut command = program(program_name, &[name]);
-            assert_texts(command.stdout(full), "", OUTPUT_LOST);
+            assert_texts(command.stdout(full_output()), "", OUTPUT_LOST);
         }
     }
+}
+
+/// Likewise a program file that cannot be written.
+#[test]
+fn assembled_file_that_is_not_taken() {
+    let text = TemporaryFile::holding(b"1 0: v0=1");
+    let mut command = program("assemble", &[text_of(text.path())]);
+    assert_texts(command.stdout(full_output()), "", OUTPUT_LOST);
 }
 
 #[test]
 fn help() {
     for (name, usage, word) in [
         ("listing", LISTING_USAGE, "standard input"),
+        ("assemble", ASSEMBLE_USAGE, "standard input"),
         ("rehearse", REHEARSE_USAGE, "settle HEX"),
     ] {
         let output = program(name, &["--help"])
@@ -163,15 +181,16 @@ fn wrong_arguments() {
     let file = TemporaryFile::holding(&STATION_10);
     let name = text_of(file.path());
     let long = "p".repeat(MAX_PATH + 1);
-    let listing: [&[&str]; 5] = [
+    let one_file: [&[&str]; 5] = [
         &[""],
         &[name, ""],
         &[name, name],
         &[name, "--help"],
         &[&long, name],
     ];
-    for arguments in listing {
+    for arguments in one_file {
         assert_texts(&mut program("listing", arguments), "", LISTING_USAGE);
+        assert_texts(&mut program("assemble", arguments), "", ASSEMBLE_USAGE);
     }
     let rehearse: [&[&str]; 8] = [
         &[],
@@ -207,8 +226,9 @@ fn longest_file_name() {
     );
     for length in [MAX_PATH + 1, MAX_PATH + 2, 2 * MAX_PATH, 100_000] {
         let name = name_of_length(file.path(), length);
-        assert_texts(&mut program("listing", &[&name]), "", LONG_NAME);
-        assert_texts(&mut program("rehearse", &[&name]), "", LONG_NAME);
+        for program_name in ["listing", "assemble", "rehearse"] {
+            assert_texts(&mut program(program_name, &[&name]), "", LONG_NAME);
+        }
         assert_texts(&mut program("rehearse", &[&name, "parts"]), "", LONG_NAME);
     }
 }

@@ -7,8 +7,9 @@ use mathlib.Core.List.{List, [], _∷_, _++_, map, append-assoc, append-nil}
 use native.Mathlib.Nat.{zero-add, add-zero, add-suc, suc-add, sub-zero}
 use native.Mathlib.Numerals.{add-one}
 use native.Mathlib.Omega.{arith}
-use lib.ListN.{length, getD, take, drop, set, replicate, length-append, length-set, List·getD-map}
-use lib.Seq.{sets, drop-cons, sets-eq, length-take-le, take-at, drop-at, getD-set-same, getD-set-other, drop-set-lt, set-comm, set-set, drop-drop, drop-append-seam, drop-append-add, getD-drop}
+use native.Mathlib.Decide.{decLt}
+use lib.ListN.{length, getD, take, drop, set, replicate, length-append, length-drop, length-set, List·getD-map}
+use lib.Seq.{sets, length-sets, drop-cons, sets-eq, length-take-le, take-all, take-at, drop-at, set-out, getD-set-same, getD-set-other, drop-set-lt, set-comm, set-set, drop-drop, drop-append-seam, drop-append-add, getD-drop}
 use Rattle.base.specs.Lists.{sum, concat, all, bytesAt}
 
 -- a run of stores, and then one that begins where it ends
@@ -29,6 +30,17 @@ sets-swap l i j (x ∷ xs) ys h = rw (set-before l i j x ys (omega arith)) (sets
 pub sets-before : (l : List ℕ) (i j : ℕ) (xs ys : List ℕ) → i + length xs ≡ j → sets (sets l j ys) i xs ≡ sets l i (xs ++ ys)
 sets-before l i j [] ys e = let k : j ≡ i = omega arith in rw k
 sets-before l i j (x ∷ xs) ys e = rw (set-before l i j x ys (omega arith)) (sets-before (set l i x) (suc i) j xs ys (omega arith))
+
+-- a run of stores that begins beyond the end
+pub sets-out : (l : List ℕ) (i : ℕ) (xs : List ℕ) → length l ≤ i → sets l i xs ≡ l
+sets-out l i [] h = refl
+sets-out l i (x ∷ xs) h = rw (set-out l i x h) (sets-out l (suc i) xs (omega arith))
+
+-- a run of stores over an earlier one that is no longer
+pub sets-cover : (l : List ℕ) (i : ℕ) (xs ys : List ℕ) → length xs ≤ length ys → sets (sets l i xs) i ys ≡ sets l i ys
+sets-cover l i [] ys h = refl
+sets-cover l i (x ∷ xs) [] h = absurd (omega arith)
+sets-cover l i (x ∷ xs) (y ∷ ys) h = rw (set-before (set l i x) i (suc i) y xs (omega arith), set-set) (sets-cover (set l i y) (suc i) xs ys (omega arith))
 
 -- a run of stores inside an earlier one
 set-inside : (l : List ℕ) (i k y : ℕ) (xs : List ℕ) → k < length xs → set (sets l i xs) (i + k) y ≡ sets l i (set xs k y)
@@ -77,6 +89,14 @@ pub bytes-append : (s : List ℕ) (i a b : ℕ) → bytesAt s i (a + b) ≡ byte
 bytes-append s i zero b = rw (zero-add, add-zero)
 bytes-append s i (suc a) b = rw (suc-add, bytes-append s (suc i) a b, suc-add, ← add-suc)
 
+-- bytes stored up to the end or beyond: more of them change nothing
+pub sets-bytes-cut : (l s : List ℕ) (i j k n : ℕ) → length l ≤ j + k → k ≤ n → sets l j (bytesAt s i k) ≡ sets l j (bytesAt s i n)
+sets-bytes-cut l s i j k n h g =
+    let whole : k + (n - k) ≡ n = omega arith in
+    sym (sets-out (sets l j (bytesAt s i k)) (j + k) (bytesAt s (i + k) (n - k)) (rw length-sets h))
+    ∙ sets-append l j (j + k) (bytesAt s i k) (bytesAt s (i + k) (n - k)) (rw length-bytes)
+    ∙ rw (← bytes-append, whole)
+
 -- a test that each of them passes
 pub all-bytes : (f : ℕ → Bool) (s : List ℕ) (i n : ℕ) → ((j : ℕ) → j < n → f (getD s (i + j) 0) ≡ true) → all f (bytesAt s i n) ≡ true
 all-bytes f s i zero h = refl
@@ -87,6 +107,10 @@ all-bytes f s i (suc n) h =
 -- so many bytes taken from a place on
 pub take-bytes : (s : List ℕ) (k n : ℕ) → k + n ≤ length s → take n (drop k s) ≡ bytesAt s k n
 take-bytes s k n h = rw (drop-bytes s k n h) (take-at (bytesAt s k n) (drop (k + n) s) n (length-bytes s k n))
+
+-- all that there are from a place on
+pub take-rest : (s : List ℕ) (k : ℕ) → take (length s - k) (drop k s) ≡ drop k s
+take-rest s k = take-all (length s - k) (drop k s) (rw length-drop (omega arith))
 
 -- a run of stores that begins a list
 pub sets-start : (l xs : List ℕ) → length xs ≤ length l → sets l 0 xs ≡ xs ++ drop (length xs) l
@@ -102,6 +126,20 @@ pub getD-sets-in : (l : List ℕ) (i k : ℕ) (vs : List ℕ) → k < length vs 
 getD-sets-in l i k [] a b = absurd (omega arith)
 getD-sets-in l i zero (v ∷ vs) a b = rw add-zero (getD-sets-out vs (set l i v) (suc i) i (inl (omega arith)) ∙ getD-set-same l i v 0 (omega arith))
 getD-sets-in l i (suc k) (v ∷ vs) a b = rw (add-suc, ← suc-add) (getD-sets-in (set l i v) (suc i) k vs (omega arith) (rw length-set (omega arith)))
+
+-- what a run of stores left where it was, stored at no lower a place of a list that is no longer, is the whole run: what
+-- the one has no room for, the other has none for either
+pub sets-again : (l s : List ℕ) (i j : ℕ) (xs : List ℕ) → i ≤ j → length l ≤ length s → sets l j (bytesAt (sets s i xs) i (length xs)) ≡ sets l j xs
+sets-again l s i j [] h k = refl
+sets-again l s i j (x ∷ xs) h k =
+    ap (λ (m : List ℕ). sets m (suc j) (bytesAt (sets (set s i x) (suc i) xs) (suc i) (length xs))) (first (decLt i (length s)))
+    ∙ sets-again (set l j x) (set s i x) (suc i) (suc j) xs (omega arith) (simp length-set k)
+  where
+    first : Dec (i < length s) → set l j (getD (sets (set s i x) (suc i) xs) i 0) ≡ set l j x
+    first (yes p) = rw (getD-sets-out xs (set s i x) (suc i) i (inl (omega arith)), getD-set-same s i x 0 p)
+    first (no q) =
+        let out : length l ≤ j = omega (arith, q) in
+        set-out l j (getD (sets (set s i x) (suc i) xs) i 0) out ∙ sym (set-out l j x out)
 
 pub bytes-sets-out : (xs l : List ℕ) (i j n : ℕ) → (j + n ≤ i) ⊎ (i + length xs ≤ j) → bytesAt (sets l i xs) j n ≡ bytesAt l j n
 bytes-sets-out xs l i j zero h = refl

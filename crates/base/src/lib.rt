@@ -4,7 +4,7 @@ ghost use mathlib.Core.Path.{_≡_};
 ghost use Prim.Native.Nat.{_+_, _<_, _≤_, _^_};
 ghost use lib.ListN.{length, getD, set, replicate};
 ghost use lib.Seq.{sets};
-ghost use Rattle.base.specs.Lists.{bytesAt};
+ghost use Rattle.base.specs.Lists.{bytesAt, same};
 
 // The byte at place i, 0 beyond the end.
 pub fn at(s: &[u8], i: usize) -> u8
@@ -28,6 +28,21 @@ pub fn store(s: &mut [u8], i: usize, b: u8)
     ensures { λ _. ⌜ now (s .exit) ≡ set (now (s .entry)) i b ⌝ }
 {
     s[i] = b;
+}
+
+// Whether two slices hold the same bytes.
+pub fn same(s: &[u8], other: &[u8]) -> bool
+    ensures { λ r. ⌜ r ≡ same (now (s .entry)) (now (other .entry)) ⌝ }
+{
+    if s.len() != other.len() {
+        return false;
+    }
+    for i in 0..s.len() {
+        if s[i] != other[i] {
+            return false;
+        }
+    }
+    true
 }
 
 // A byte as a number that indexes.

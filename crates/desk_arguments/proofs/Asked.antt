@@ -13,7 +13,7 @@ use borrow.Author.Tests.{lt-ltb, le-ltb, eq-eqb, ne-eqb}
 use Rattle.base.specs.Lists.{same}
 use Rattle.desk_arguments.specs.declared.Request.{Request}
 use Rattle.desk_arguments.specs.declared.Request.the-variants.{Help, Usage, LongName, Input, File, FileWithParts}
-use Rattle.desk_arguments.specs.Requests.{tooLong, isCut, withName, withWord, helpWord, partsWord, nameRequest, listingRequest, asksParts, rehearseRequest}
+use Rattle.desk_arguments.specs.Requests.{tooLong, isCut, withName, withWord, helpWord, partsWord, nameRequest, sourceRequest, asksParts, rehearseRequest}
 
 -- the bits of a negative number are those of a large one
 pub cut-is : (error : ℤ) → SFits w32 error → eqb (ofZ w32 error) tooLong ≡ isCut error
@@ -81,38 +81,38 @@ never-parts name false false false true = go (eqb (length name) 0)
     go true = refl
     go false = refl
 
--- `rehearse` never reads its program from standard input, and `listing` never prints marked parts
+-- `rehearse` never reads its program from standard input, and the others never print marked parts
 pub rehearse-named : (count : ℕ) (name second : List ℕ) (cut : Bool) → rehearseRequest count name cut second ≡ Input → ⊥
 unfolding rehearseRequest isInput
 rehearse-named count name second cut e =
     let is = never-input name cut (asksParts count second) (same name helpWord) (eqb count withName || asksParts count second) in
     true≢false (sym (ap isInput e) ∙ is)
 
-pub listing-no-parts : (count : ℕ) (name : List ℕ) (cut : Bool) → listingRequest count name cut ≡ FileWithParts → ⊥
-unfolding listingRequest hasParts
-listing-no-parts count name cut e =
+pub source-no-parts : (count : ℕ) (name : List ℕ) (cut : Bool) → sourceRequest count name cut ≡ FileWithParts → ⊥
+unfolding sourceRequest hasParts
+source-no-parts count name cut e =
     let is = never-parts name cut (ltb count withName) (same name helpWord) (eqb count withName) in
     true≢false (sym (ap hasParts e) ∙ is)
 
--- `listing`
+-- `assemble` and `listing`
 module _ (count : ℕ) (name : List ℕ) (cut : Bool) where
-  pub listing-input : count < withName → Input ≡ listingRequest count name cut
-  unfolding listingRequest
-  listing-input h = rw (lt-ltb count withName h)
+  pub source-input : count < withName → Input ≡ sourceRequest count name cut
+  unfolding sourceRequest
+  source-input h = rw (lt-ltb count withName h)
 
   module _ (named : withName ≤ count) (help : Bool) (help-is : help ≡ same name helpWord) where
-    pub listing-help : help ≡ true → Help ≡ listingRequest count name cut
-    unfolding listingRequest
-    listing-help h = rw (le-ltb count withName named, ← help-is, h)
+    pub source-help : help ≡ true → Help ≡ sourceRequest count name cut
+    unfolding sourceRequest
+    source-help h = rw (le-ltb count withName named, ← help-is, h)
 
     module _ (no-help : help ≡ false) where
-      pub listing-name : (r : Request) → count ≡ withName → r ≡ nameRequest name cut false → r ≡ listingRequest count name cut
-      unfolding listingRequest
-      listing-name r h r-is = rw (le-ltb count withName named, ← help-is, no-help, eq-eqb count withName h, r-is)
+      pub source-name : (r : Request) → count ≡ withName → r ≡ nameRequest name cut false → r ≡ sourceRequest count name cut
+      unfolding sourceRequest
+      source-name r h r-is = rw (le-ltb count withName named, ← help-is, no-help, eq-eqb count withName h, r-is)
 
-      pub listing-more : (count ≡ withName → ⊥) → Usage ≡ listingRequest count name cut
-      unfolding listingRequest
-      listing-more h = rw (le-ltb count withName named, ← help-is, no-help, ne-eqb count withName h)
+      pub source-more : (count ≡ withName → ⊥) → Usage ≡ sourceRequest count name cut
+      unfolding sourceRequest
+      source-more h = rw (le-ltb count withName named, ← help-is, no-help, ne-eqb count withName h)
 
 -- `rehearse`
 module _ (count : ℕ) (name second : List ℕ) (cut help : Bool) (help-is : help ≡ same name helpWord) where

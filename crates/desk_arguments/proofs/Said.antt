@@ -7,15 +7,17 @@ use lib.ListN.{length}
 use Rattle.desk_format.specs.Writing.{Written}
 use Rattle.desk_format.proofs.Texts.{same-text, written-append}
 use Rattle.desk_arguments.specs.declared.Command.{Command}
-use Rattle.desk_arguments.specs.declared.Command.the-variants.{Listing, Rehearse}
+use Rattle.desk_arguments.specs.declared.Command.the-variants.{Assemble, Listing, Rehearse}
 use Rattle.desk_arguments.specs.declared.Request.{Request}
 use Rattle.desk_arguments.specs.declared.Request.the-variants.{Help, Usage, LongName, Input, File, FileWithParts}
 use Rattle.desk_arguments.specs.Messages.{usageText, purposeText, helpText, messageText, maxMessage}
 
 message-fits : (command : Command) (request : Request) → length (messageText command request) ≤ maxMessage
 unfolding messageText helpText usageText purposeText
+message-fits Assemble Help = omega arith
 message-fits Listing Help = omega arith
 message-fits Rehearse Help = omega arith
+message-fits Assemble Usage = omega arith
 message-fits Listing Usage = omega arith
 message-fits Rehearse Usage = omega arith
 message-fits command LongName = omega arith
@@ -37,6 +39,7 @@ nothing l = record { bytes = refl; after = refl }
 -- help: the usage line, and after it what the command does
 help-room : (command : Command) (i : ℕ) → i ≡ length (usageText command) → i + length (purposeText command) < 2 ^ 64
 unfolding usageText purposeText
+help-room Assemble i e = omega arith
 help-room Listing i e = omega arith
 help-room Rehearse i e = omega arith
 

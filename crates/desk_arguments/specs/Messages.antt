@@ -4,7 +4,7 @@ use mathlib.Core.Bool.{Bool, true, false}
 use mathlib.Core.List.{List, [], _++_}
 use Rattle.desk_format.specs.Words.{word}
 use Rattle.desk_arguments.specs.declared.Command.{Command}
-use Rattle.desk_arguments.specs.declared.Command.the-variants.{Listing, Rehearse}
+use Rattle.desk_arguments.specs.declared.Command.the-variants.{Assemble, Listing, Rehearse}
 use Rattle.desk_arguments.specs.declared.Request.{Request}
 use Rattle.desk_arguments.specs.declared.Request.the-variants.{Help, Usage, LongName, Input, File, FileWithParts}
 
@@ -18,12 +18,14 @@ isAsked File = false
 isAsked FileWithParts = false
 
 unfoldable pub usageText : Command → List ℕ
+usageText Assemble = word "usage: assemble [TEXT]\n"
 usageText Listing = word "usage: listing [PROGRAM]\n"
 usageText Rehearse = word "usage: rehearse PROGRAM [parts]\n"
 
 unfoldable pub purposeText : Command → List ℕ
+purposeText Assemble = word "Writes the program file of the program that is typed as text in the file TEXT to standard output.\nWithout TEXT it reads the text from standard input.\nA text that is refused gives no output; why it is refused is printed on standard error.\n"
 purposeText Listing = word "Prints the location table of the program in the file PROGRAM, or the number of its refusal.\nWithout PROGRAM it reads the file from standard input.\n"
-purposeText Rehearse = word "Makes the calls on standard input, one a line, on the program in the file PROGRAM, and prints each answer.\nCalls: begin HEX, offer TIME, offer TIME LENGTH, settle HEX.\nWith the word parts it prints the marked parts under each answer.\n"
+purposeText Rehearse = word "Makes the calls on standard input, one a line, on the program in the file PROGRAM, and prints each answer.\nPROGRAM is a program file, or a program that is typed as text.\nCalls: begin HEX, offer TIME, offer TIME LENGTH, settle HEX.\nWith the word parts it prints the marked parts under each answer.\n"
 
 unfoldable pub helpText : Command → List ℕ
 helpText command = usageText command ++ purposeText command

@@ -36,9 +36,9 @@ partsWord = word "parts"
 unfoldable pub nameRequest : List ℕ → Bool → Bool → Request
 nameRequest name cut parts = cond cut LongName (cond (eqb (length name) 0) Usage (cond parts FileWithParts File))
 
--- `listing`: nothing, so that the file is on standard input, or a file name
-unfoldable pub listingRequest : ℕ → List ℕ → Bool → Request
-listingRequest count name cut =
+-- `assemble` and `listing`: nothing, so that the file is on standard input, or a file name
+unfoldable pub sourceRequest : ℕ → List ℕ → Bool → Request
+sourceRequest count name cut =
     cond (ltb count withName) Input
     (cond (same name helpWord) Help
     (cond (eqb count withName) (nameRequest name cut false) Usage))

@@ -5,6 +5,7 @@ pub mod requests;
 
 // The commands that take arguments.
 pub enum Command {
+    Assemble,
     Listing,
     Rehearse,
 }

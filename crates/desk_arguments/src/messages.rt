@@ -30,6 +30,7 @@ fn write_usage(command: Command, out: &mut [u8]) -> usize
     ensures { λ r. ⌜ Written (usageText command) (now (out .entry)) 0 (now (out .exit)) r ⌝ }
 {
     match command {
+        Command::Assemble => write_word(b"usage: assemble [TEXT]\n", out, 0),
         Command::Listing => write_word(b"usage: listing [PROGRAM]\n", out, 0),
         Command::Rehearse => write_word(b"usage: rehearse PROGRAM [parts]\n", out, 0),
     }
@@ -41,13 +42,18 @@ fn write_purpose(command: Command, out: &mut [u8], i: usize) -> usize
     ensures { λ r. ⌜ Written (purposeText command) (now (out .entry)) i (now (out .exit)) r ⌝ }
 {
     match command {
+        Command::Assemble => write_word(
+            b"Writes the program file of the program that is typed as text in the file TEXT to standard output.\nWithout TEXT it reads the text from standard input.\nA text that is refused gives no output; why it is refused is printed on standard error.\n",
+            out,
+            i,
+        ),
         Command::Listing => write_word(
             b"Prints the location table of the program in the file PROGRAM, or the number of its refusal.\nWithout PROGRAM it reads the file from standard input.\n",
             out,
             i,
         ),
         Command::Rehearse => write_word(
-            b"Makes the calls on standard input, one a line, on the program in the file PROGRAM, and prints each answer.\nCalls: begin HEX, offer TIME, offer TIME LENGTH, settle HEX.\nWith the word parts it prints the marked parts under each answer.\n",
+            b"Makes the calls on standard input, one a line, on the program in the file PROGRAM, and prints each answer.\nPROGRAM is a program file, or a program that is typed as text.\nCalls: begin HEX, offer TIME, offer TIME LENGTH, settle HEX.\nWith the word parts it prints the marked parts under each answer.\n",
             out,
             i,
         ),

@@ -1,10 +1,10 @@
 // What the arguments ask for, by their number and their bytes. Argument 0 is the command's own name, argument 1 names
 // a file or asks for help, and argument 2 is a word.
 use crate::Request;
-use desk_parse::is_word;
+use base::same;
 use libc::ENAMETOOLONG;
 ghost use mathlib.Core.Path.{_≡_};
-ghost use Rattle.desk_arguments.specs.Requests.{isCut, nameRequest, listingRequest, rehearseRequest};
+ghost use Rattle.desk_arguments.specs.Requests.{isCut, nameRequest, sourceRequest, rehearseRequest};
 
 // How many arguments there are with a file name, and with a word after it.
 const WITH_NAME: usize = 2;
@@ -34,14 +34,14 @@ fn name_request(name: &[u8], cut: bool, parts: bool) -> Request
     Request::File
 }
 
-// What the arguments of `listing` ask for.
-pub fn listing_request(count: usize, name: &[u8], cut: bool) -> Request
-    ensures { λ r. ⌜ r ≡ listingRequest count (now (name .entry)) cut ⌝ }
+// What the arguments of `assemble` and of `listing` ask for.
+pub fn source_request(count: usize, name: &[u8], cut: bool) -> Request
+    ensures { λ r. ⌜ r ≡ sourceRequest count (now (name .entry)) cut ⌝ }
 {
     if count < WITH_NAME {
         return Request::Input;
     }
-    if is_word(name, b"--help") {
+    if same(name, b"--help") {
         return Request::Help;
     }
     if count == WITH_NAME {
@@ -54,10 +54,10 @@ pub fn listing_request(count: usize, name: &[u8], cut: bool) -> Request
 pub fn rehearse_request(count: usize, name: &[u8], cut: bool, word: &[u8]) -> Request
     ensures { λ r. ⌜ r ≡ rehearseRequest count (now (name .entry)) cut (now (word .entry)) ⌝ }
 {
-    if is_word(name, b"--help") {
+    if same(name, b"--help") {
         return Request::Help;
     }
-    let parts = (count == WITH_WORD) & is_word(word, b"parts");
+    let parts = (count == WITH_WORD) & same(word, b"parts");
     if (count == WITH_NAME) | parts {
         return name_request(name, cut, parts);
     }

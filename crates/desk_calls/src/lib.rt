@@ -2,11 +2,11 @@
 pub mod pieces;
 
 use base::at;
+use base::same;
 use desk_parse::Numeral;
 use desk_parse::Pairs;
 use desk_parse::decimal::numeral;
 use desk_parse::hexadecimal::read_pairs;
-use desk_parse::is_word;
 use desk_parse::rest_of;
 use desk_parse::trimmed;
 use desk_parse::word_of;
@@ -82,13 +82,13 @@ fn line_by_word(word: &[u8], rest: &[u8], bytes: &mut [u8]) -> Line
     if passed_over(word) {
         return Line::Passed;
     }
-    if is_word(word, b"begin") {
+    if same(word, b"begin") {
         return begin_with(read_pairs(rest, bytes));
     }
-    if is_word(word, b"offer") {
+    if same(word, b"offer") {
         return offer_with(rest);
     }
-    if is_word(word, b"settle") {
+    if same(word, b"settle") {
         return settle_with(read_pairs(rest, bytes));
     }
     Line::NotACall

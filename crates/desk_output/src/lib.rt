@@ -20,6 +20,13 @@ pub fn print(text: &[u8], n: usize) -> bool
     is_written
 }
 
+// Writes the first n bytes of a message to standard error.
+pub fn print_error(message: &[u8], n: usize)
+    requires { ⌜ n ≤ length (now message) ⌝ }
+{
+    io::write_all(STDERR_FILENO, &message[..n]);
+}
+
 // Prints the message of a request.
 pub fn print_message(command: Command, request: Request) {
     let mut text = [0u8; MAX_MESSAGE];
@@ -27,6 +34,6 @@ pub fn print_message(command: Command, request: Request) {
     if is_asked(request) {
         print(&text, n);
     } else {
-        io::write_all(STDERR_FILENO, &text[..n]);
+        print_error(&text, n);
     }
 }

@@ -3,15 +3,15 @@ use Prim.Native.Nat.{ℕ, zero, suc, _+_, _-_, _≤_, _<_}
 use native.Mathlib.Nat.{zero-add, sub-zero, add-zero, add-suc, suc-add}
 use native.Mathlib.Numerals.{add-one}
 use native.Mathlib.Omega.{arith}
-use mathlib.Core.Path.{_≡_, refl, sym, ap, _∙_}
-use mathlib.Core.Bool.{Bool, true, false, cond, _&&_}
+use mathlib.Core.Path.{_≡_, refl, sym, _∙_}
+use mathlib.Core.Bool.{Bool, true, false, cond}
 use mathlib.Core.List.{List, [], _∷_}
-use lib.Dec.{eqb, leb}
-use lib.ListN.{length, getD, take, drop, length-drop, drop-of-length-le}
-use lib.Seq.{drop-cons, take-all, length-take-le}
+use lib.Dec.{leb}
+use lib.ListN.{length, getD, take, drop, drop-of-length-le}
+use lib.Seq.{drop-cons, length-take-le}
 use borrow.Author.Tests.{eq-eqb, ne-eqb, le-leb, leb-true}
-use Rattle.base.specs.Lists.{same, bytesAt}
-use Rattle.base.proofs.Stores.{bytes-all, length-bytes}
+use Rattle.base.specs.Lists.{bytesAt}
+use Rattle.base.proofs.Stores.{take-rest, bytes-all, length-bytes}
 use Rattle.desk_parse.specs.Words.{isSpace, isOther, leading, trimmed, wordOf, restOf}
 use Rattle.desk_parse.specs.Places.{placeOf}
 
@@ -49,13 +49,10 @@ pub leading-within : (t : ℕ → Bool) (l : List ℕ) (n : ℕ) → n ≡ leadi
 leading-within t l n e = rw e (leading-few t l)
 
 -- A text after its leading spaces, its first word and what stands after it
-take-rest : (n : ℕ) (l : List ℕ) → take (length l - n) (drop n l) ≡ drop n l
-take-rest n l = take-all (length l - n) (drop n l) (rw length-drop (omega arith))
-
 module _ (l : List ℕ) (n : ℕ) where
   pub after-spaces : n ≡ leading isSpace l → take (length l - n) (drop n l) ≡ trimmed l
   unfolding trimmed
-  after-spaces e = take-rest n l ∙ rw e
+  after-spaces e = take-rest l n ∙ rw e
 
   module _ (e : n ≡ leading (isOther 32) l) where
     pub word-length : n ≡ length (take n l)
@@ -67,7 +64,7 @@ module _ (l : List ℕ) (n : ℕ) where
 
     pub after-word : take (length l - n) (drop n l) ≡ restOf l
     unfolding restOf
-    after-word = take-rest n l ∙ rw e
+    after-word = take-rest l n ∙ rw e
 
 -- The spaces that a text begins with
 module _ (s : List ℕ) (i x : ℕ) (inv : i + leading isSpace (drop i s) ≡ x) where
@@ -122,30 +119,3 @@ place-within b s from to h =
 pub place-all : (b : ℕ) (s : List ℕ) (r : ℕ) → r ≡ placeOf b s 0 (length s) → r ≡ leading (isOther b) s
 unfolding placeOf
 place-all b s r e = e ∙ rw (le-leb 0 (length s) (omega arith), zero-add, sub-zero, bytes-all)
-
--- Two words, byte by byte
-module _ (s w : List ℕ) (i : ℕ) (x : Bool) (long : length s ≡ length w) (inv : same (drop i s) (drop i w) ≡ x) where
-  pub word-next : i < length s → getD s i 0 ≡ getD w i 0 → same (drop (i + 1) s) (drop (i + 1) w) ≡ x
-  word-next h e =
-      let k : i < length w = omega arith in
-      rw (add-one i) (rw (drop-cons s i 0 h, drop-cons w i 0 k, eq-eqb (getD s i 0) (getD w i 0) e) at inv)
-
-  pub word-differs : i < length s → (getD s i 0 ≡ getD w i 0 → ⊥) → false ≡ x
-  word-differs h e =
-      let k : i < length w = omega arith in
-      rw (drop-cons s i 0 h, drop-cons w i 0 k, ne-eqb (getD s i 0) (getD w i 0) e) at inv
-
-  pub word-ends : length s ≤ i → true ≡ x
-  word-ends h =
-      let k : length w ≤ i = omega arith in
-      rw (drop-of-length-le s h, drop-of-length-le w k) at inv
-
-pub lengths-differ : (s w : List ℕ) → (length s ≡ length w → ⊥) → false ≡ same s w
-lengths-differ [] [] h = absurd (h refl)
-lengths-differ [] (y ∷ w) h = refl
-lengths-differ (x ∷ s) [] h = refl
-lengths-differ (x ∷ s) (y ∷ w) h = rw (← (lengths-differ s w (λ e. h (ap suc e)))) (go (eqb x y))
-  where
-    go : (b : Bool) → false ≡ (b && false)
-    go true = refl
-    go false = refl

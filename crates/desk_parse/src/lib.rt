@@ -4,7 +4,6 @@ pub mod hexadecimal;
 
 use base::at;
 ghost use mathlib.Core.Path.{_≡_};
-ghost use Rattle.base.specs.Lists.{same};
 ghost use Rattle.desk_parse.specs.Words.{isSpace, isOther, leading, trimmed, wordOf, restOf};
 ghost use Rattle.desk_parse.specs.Places.{placeOf};
 
@@ -74,19 +73,4 @@ pub fn rest_of(s: &[u8]) -> &[u8]
 {
     let n = letters(s);
     &s[n..]
-}
-
-// Whether a word is the given one.
-pub fn is_word(s: &[u8], word: &[u8]) -> bool
-    ensures { λ r. ⌜ r ≡ same (now (s .entry)) (now (word .entry)) ⌝ }
-{
-    if s.len() != word.len() {
-        return false;
-    }
-    for i in 0..s.len() {
-        if s[i] != word[i] {
-            return false;
-        }
-    }
-    true
 }

@@ -8,7 +8,9 @@ use program_decompile::decompile;
 use run_begin::begin;
 use run_offer::offer;
 use run_settle::settle;
+use text_assemble::assemble;
 ghost use Rattle.meaning.specs.Operations.{Compiled, Decompiled, Begun, Offered, Settled};
+ghost use Rattle.text_grammar.specs.Assembling.{Assembled};
 
 #[no_mangle]
 pub extern "C" fn gurvoke_compile(file: &[u8], table: &mut [u8]) -> u32
@@ -43,4 +45,11 @@ pub extern "C" fn gurvoke_settle(table: &[u8], record: &mut [u8], estimate: &[u8
     ensures { λ a. ⌜ Settled (now (table .entry)) (now («record» .entry)) (now (estimate .entry)) a (now («record» .exit)) ⌝ }
 {
     settle_number(settle(table, record, estimate))
+}
+
+#[no_mangle]
+pub extern "C" fn gurvoke_text(text: &[u8], file: &mut [u8]) -> u32
+    ensures { λ a. ⌜ Assembled (now (text .entry)) (now (file .entry)) a (now (file .exit)) ⌝ }
+{
+    answer_number(assemble(text, file))
 }

@@ -3,7 +3,7 @@ use desk_arguments::Command;
 use desk_arguments::MAX_PATH;
 use desk_arguments::Request;
 use desk_arguments::requests::is_cut;
-use desk_arguments::requests::listing_request;
+use desk_arguments::requests::source_request;
 use desk_input::Piece;
 use desk_input::read_file;
 use desk_input::read_whole;
@@ -37,7 +37,7 @@ fn main() {
     let mut name = [0u8; MAX_PATH];
     let n = os::arg(NAME, &mut name);
     let cut = is_cut(os::errno());
-    let request = listing_request(os::arg_count(), &name[..n], cut);
+    let request = source_request(os::arg_count(), &name[..n], cut);
     let mut file = [0u8; MAX_FILE + 1];
     match request {
         Request::Input => {

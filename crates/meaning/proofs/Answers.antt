@@ -10,7 +10,7 @@ use borrow.Author.Tests.{ltb-true, leb-false, eqb-true, eqb-false, ne-eqb}
 use Rattle.base.specs.Lists.{all, firstFailing}
 use Rattle.base.proofs.Lists.{fails-append}
 use Rattle.meaning.specs.declared.Refusal.{Refusal}
-use Rattle.meaning.specs.declared.Refusal.the-variants.{FileTooShort, SizeOutOfRange, WrongLength, UnknownKind, OperandNotAllowed, NotOneTree, TooDeep, BufferTooShort, NotATable, RecordNotAllowed, WrongPhase, TimeBeforeLast, EstimateNotAllowed, RunFinished, NothingAtWork}
+use Rattle.meaning.specs.declared.Refusal.the-variants.{FileTooShort, SizeOutOfRange, WrongLength, UnknownKind, OperandNotAllowed, NotOneTree, TooDeep, BufferTooShort, NotATable, RecordNotAllowed, WrongPhase, TimeBeforeLast, EstimateNotAllowed, RunFinished, NothingAtWork, NotAText}
 use Rattle.meaning.specs.declared.Answer.{Answer}
 use Rattle.meaning.specs.declared.Answer.the-variants.{Done, Refused}
 use Rattle.meaning.specs.declared.OfferAnswer.{OfferAnswer}
@@ -37,8 +37,9 @@ refusal-counts TimeBeforeLast = omega arith
 refusal-counts EstimateNotAllowed = omega arith
 refusal-counts RunFinished = omega arith
 refusal-counts NothingAtWork = omega arith
+refusal-counts NotAText = omega arith
 
-refusal-positive : (r : Refusal) → refusalNumber r ≡ 0 → ⊥
+pub refusal-positive : (r : Refusal) → refusalNumber r ≡ 0 → ⊥
 refusal-positive r h = omega (arith, refusal-counts r)
 
 -- the refusals in the order of their numbers, of which the first is 1
@@ -59,10 +60,11 @@ refusals =
     ∷ EstimateNotAllowed
     ∷ RunFinished
     ∷ NothingAtWork
+    ∷ NotAText
     ∷ []
 
 abbrev refusalOf : ℕ → Refusal
-refusalOf n = getD refusals (n - 1) NothingAtWork
+refusalOf n = getD refusals (n - 1) NotAText
 
 refusal-back : (r : Refusal) → refusalOf (refusalNumber r) ≡ r
 refusal-back FileTooShort = refl
@@ -80,6 +82,7 @@ refusal-back TimeBeforeLast = refl
 refusal-back EstimateNotAllowed = refl
 refusal-back RunFinished = refl
 refusal-back NothingAtWork = refl
+refusal-back NotAText = refl
 
 -- No number is that of two answers: not of two refusals, nor of two answers of an operation
 pub refusal-number-one : (r s : Refusal) → refusalNumber r ≡ refusalNumber s → r ≡ s

@@ -4,7 +4,7 @@ use mathlib.Core.Path.{_≡_, refl}
 use mathlib.Core.List.{List, [], _∷_, _++_}
 use lib.ListN.{take, set, replicate}
 use Rattle.meaning.specs.declared.Form.the-variants.{File}
-use Rattle.meaning.specs.declared.Refusal.the-variants.{FileTooShort, SizeOutOfRange, WrongLength, UnknownKind, OperandNotAllowed, NotOneTree, TooDeep, BufferTooShort, NotATable, RecordNotAllowed, WrongPhase, TimeBeforeLast, EstimateNotAllowed, RunFinished, NothingAtWork}
+use Rattle.meaning.specs.declared.Refusal.the-variants.{FileTooShort, SizeOutOfRange, WrongLength, UnknownKind, OperandNotAllowed, NotOneTree, TooDeep, BufferTooShort, NotATable, RecordNotAllowed, WrongPhase, TimeBeforeLast, EstimateNotAllowed, RunFinished, NothingAtWork, NotAText}
 use Rattle.meaning.specs.declared.Answer.the-variants.{Done}
 use Rattle.meaning.specs.declared.OfferAnswer.the-variants.{Agreed, Contested}
 use Rattle.meaning.specs.declared.SettleAnswer.the-variants.{Running, Finished}
@@ -64,6 +64,7 @@ pub answer-numbers : Holds
     ∷ refusalNumber EstimateNotAllowed gets 13
     ∷ refusalNumber RunFinished gets 14
     ∷ refusalNumber NothingAtWork gets 15
+    ∷ refusalNumber NotAText gets 16
     ∷ answerNumber Done gets 0
     ∷ offerNumber (Contested 0) gets 256
     ∷ offerNumber (Contested 31) gets 287

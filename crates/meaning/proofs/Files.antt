@@ -105,7 +105,7 @@ module _ (t : Entry → Bool) (each : (p : Part) → t (entryOf p) ≡ true) whe
   all-preorder = part-ind (λ p. all t (preorder p) ≡ true) (λ p h. rw (preorder-law p, each p) (all-children (children p) h))
 
 -- a part's entry is of a known kind
-known-entry : (p : Part) → entryKnown (entryOf p) ≡ true
+pub known-entry : (p : Part) → entryKnown (entryOf p) ≡ true
 unfolding entryKnown
 known-entry p = rw (kind-number p) (known-kind p)
 
@@ -170,6 +170,10 @@ module _ (form : Form) (s : List ℕ) (d : Entry) where
   unfolding entries
   entries-are es n at = rw n (entries-from es 0 (λ i l. rw zero-add (at i l)))
 
+-- sizes and arrays together are as long as a file of so many parts
+pub length-arrays : (h : List ℕ) (es : List Entry) → length h ≡ headerLength → length (h ++ arrays es) ≡ lengthOf File (length es)
+length-arrays h es l = rw (length-append, length-append, l, length-pieces kindByte 1 (λ e. refl) es, length-pieces entryOperand operandLength (λ e. refl) es) (omega arith)
+
 -- sizes and arrays
 module _ (h : List ℕ) (es : List Entry) (d : Entry) (l : length h ≡ headerLength) (n : parts (h ++ arrays es) ≡ length es) where
   length-kinds : length (flat kindByte es) ≡ length es
@@ -202,31 +206,39 @@ module _ (h : List ℕ) (es : List Entry) (d : Entry) (l : length h ≡ headerLe
   pub file-entries : entries File (h ++ arrays es) ≡ es
   file-entries = entries-are File (h ++ arrays es) d es n file-entry
 
-  length-arrays : length (h ++ arrays es) ≡ lengthOf File (length es)
-  length-arrays = rw (length-append, length-append, l, length-pieces kindByte 1 (λ e. refl) es, length-pieces entryOperand operandLength (λ e. refl) es) (omega arith)
-
 -- a part's number is read back from its bytes
 pub number-back : (n : ℕ) (x : List ℕ) → n ≤ noPart → numberAt (numberBytes n ++ x) 0 ≡ n
 number-back n x h = omega arith
 
 -- the sizes say the number of parts, whatever follows
-pub parts-back : (n v k : ℕ) (x : List ℕ) → n ≤ maxParts → parts (sizeBytes n v k ++ x) ≡ n
-parts-back n v k x h = number-back n ((v ∷ k ∷ []) ++ x) (omega arith)
+pub parts-back : (n v k : ℕ) (x : List ℕ) → n ≤ noPart → parts (sizeBytes n v k ++ x) ≡ n
+parts-back n v k x h = number-back n ((v ∷ k ∷ []) ++ x) h
+
+-- the file of a tree is as long as a file of so many parts
+pub file-length : (v k : ℕ) (p : Part) → length (fileOf v k p) ≡ lengthOf File (size p)
+unfolding fileOf
+file-length v k p = length-arrays (sizeBytes (size p) v k) (preorder p) refl ∙ ap (lengthOf File) (length-preorder p)
+
+-- the file of a tree whose number of parts the sizes can hold, within the limits or not
+module _ (v k : ℕ) (p : Part) (fits : size p ≤ noPart) where
+  pub file-parts : parts (fileOf v k p) ≡ size p
+  unfolding fileOf
+  file-parts = parts-back (size p) v k (arrays (preorder p)) fits
+
+  pub file-preorder : entries File (fileOf v k p) ≡ preorder p
+  unfolding fileOf
+  file-preorder = file-entries (sizeBytes (size p) v k) (preorder p) (entryOf p) refl (file-parts ∙ sym (length-preorder p))
 
 module _ (v k : ℕ) (p : Part) (w : Within v k p) where
-  file-parts : parts (fileOf v k p) ≡ size p
-  unfolding fileOf
-  file-parts = parts-back (size p) v k (arrays (preorder p)) (w .size-fits)
-
   -- the file of a tree within the limits holds that tree
   pub file-holds : Holds File (fileOf v k p) p
   unfolding fileOf
   file-holds =
-      let n : parts (fileOf v k p) ≡ length (preorder p) = file-parts ∙ sym (length-preorder p) in
+      let fits : size p ≤ noPart = omega (arith, w .size-fits) in
       record {
-        length-is = rw n (length-arrays (sizeBytes (size p) v k) (preorder p) (entryOf p) refl n);
-        parts-are = file-parts;
-        entries-are = file-entries (sizeBytes (size p) v k) (preorder p) (entryOf p) refl n;
+        length-is = rw (file-parts v k p fits) (file-length v k p);
+        parts-are = file-parts v k p fits;
+        entries-are = file-preorder v k p fits;
         within = w;
       }
 

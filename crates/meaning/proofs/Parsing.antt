@@ -194,7 +194,7 @@ module _ (e : Entry) (ps qs : List Part) where
   unfolding takeChildren
   placed h = placed-case (leb (arityOf e) (length ps)) (makePart (kindOf (e .kind)) (e .operand) (take (arityOf e) ps)) refl refl h
 
-arity-entry : (p : Part) → arityOf (entryOf p) ≡ length (children p)
+pub arity-entry : (p : Part) → arityOf (entryOf p) ≡ length (children p)
 unfolding arityOf
 arity-entry p = rw (kind-number p) (arity-children p)
 

@@ -57,7 +57,7 @@ module _ (t r : List ℕ) (time room : ℕ) (h : offerRefusal t r time room ≡ 
   offer-room = leb-true (variables t) room (offer-tests .1 .1 .1 .1 .1 .0)
 
 -- bytes written at the front of a buffer that has room for them
-front-written : (gs buffer : List ℕ) (n : ℕ) → length gs ≡ n → n ≤ length buffer → (bytesAt (sets buffer 0 gs) 0 n ≡ gs) × (drop n (sets buffer 0 gs) ≡ drop n buffer)
+pub front-written : (gs buffer : List ℕ) (n : ℕ) → length gs ≡ n → n ≤ length buffer → (bytesAt (sets buffer 0 gs) 0 n ≡ gs) × (drop n (sets buffer 0 gs) ≡ drop n buffer)
 front-written gs buffer n e h = (bytes-sets gs buffer 0 n e (omega arith), drop-sets-out gs buffer 0 n (omega arith))
 
 -- the goal bytes stand at the front of the buffer, and "Further goal bytes are untouched"

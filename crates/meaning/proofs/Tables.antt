@@ -80,7 +80,7 @@ module _ (h : List ℕ) (rs : List Row) (l : length h ≡ headerLength) where
 module _ (v k : ℕ) (p : Part) (w : Within v k p) where
   pub table-parts : parts (tableOf v k p) ≡ size p
   unfolding tableOf
-  table-parts = parts-back (size p) v k (flat rowBytes (treeRows p)) (w .size-fits)
+  table-parts = parts-back (size p) v k (flat rowBytes (treeRows p)) (omega (arith, w .size-fits))
 
   -- the table of a tree within the limits holds that tree
   pub table-holds : Holds Table (tableOf v k p) p

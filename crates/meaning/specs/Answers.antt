@@ -3,7 +3,7 @@ use Prim.Native.Nat.{ℕ, _+_}
 use mathlib.Core.Bool.{Bool, true, cond}
 use lib.Dec.{eqb, ltb}
 use Rattle.meaning.specs.declared.Refusal.{Refusal}
-use Rattle.meaning.specs.declared.Refusal.the-variants.{FileTooShort, SizeOutOfRange, WrongLength, UnknownKind, OperandNotAllowed, NotOneTree, TooDeep, BufferTooShort, NotATable, RecordNotAllowed, WrongPhase, TimeBeforeLast, EstimateNotAllowed, RunFinished, NothingAtWork}
+use Rattle.meaning.specs.declared.Refusal.the-variants.{FileTooShort, SizeOutOfRange, WrongLength, UnknownKind, OperandNotAllowed, NotOneTree, TooDeep, BufferTooShort, NotATable, RecordNotAllowed, WrongPhase, TimeBeforeLast, EstimateNotAllowed, RunFinished, NothingAtWork, NotAText}
 use Rattle.meaning.specs.declared.Answer.{Answer}
 use Rattle.meaning.specs.declared.Answer.the-variants.{Done, Refused}
 use Rattle.meaning.specs.declared.OfferAnswer.{OfferAnswer}
@@ -73,6 +73,10 @@ runFinished = 14
 abbrev pub nothingAtWork : ℕ
 nothingAtWork = 15
 
+-- "16 for a text outside the grammar or too long" (document 02, R-5)
+abbrev pub notAText : ℕ
+notAText = 16
+
 abbrev pub refusalNumber : Refusal → ℕ
 refusalNumber FileTooShort = fileTooShort
 refusalNumber SizeOutOfRange = sizeOutOfRange
@@ -89,6 +93,7 @@ refusalNumber TimeBeforeLast = timeBeforeLast
 refusalNumber EstimateNotAllowed = estimateNotAllowed
 refusalNumber RunFinished = runFinished
 refusalNumber NothingAtWork = nothingAtWork
+refusalNumber NotAText = notAText
 
 abbrev pub answerNumber : Answer → ℕ
 answerNumber Done = 0

@@ -28,8 +28,11 @@ clocks s = getD s (numberWidth + 1) 0
 abbrev pub sizeBytes : ℕ → ℕ → ℕ → List ℕ
 sizeBytes n v k = numberBytes n ++ (v ∷ k ∷ [])
 
+abbrev pub sizesInRange : ℕ → ℕ → ℕ → Bool
+sizesInRange n v k = leb 1 n && (leb n maxParts && (leb 1 v && (leb v maxVariables && leb k maxClocks)))
+
 unfoldable pub sizesAllowed : List ℕ → Bool
-sizesAllowed s = leb 1 (parts s) && (leb (parts s) maxParts && (leb 1 (variables s) && (leb (variables s) maxVariables && leb (clocks s) maxClocks)))
+sizesAllowed s = sizesInRange (parts s) (variables s) (clocks s)
 
 -- What the arrays hold of one part: its kind byte and its operand
 abbrev pub operandAt : List ℕ → ℕ → Operand

@@ -72,6 +72,7 @@ pub enum Refusal {
     EstimateNotAllowed,
     RunFinished,
     NothingAtWork,
+    NotAText,
 }
 
 // What a call that gives no value answers.
@@ -114,6 +115,7 @@ pub fn refusal_number(r: Refusal) -> u32
         Refusal::EstimateNotAllowed => 13,
         Refusal::RunFinished => 14,
         Refusal::NothingAtWork => 15,
+        Refusal::NotAText => 16,
     }
 }
 

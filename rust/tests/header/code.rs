@@ -1,9 +1,12 @@
-//! The numbers of the proved code, read from the sources of the crate `meaning`: its constants, and
-//! what its functions answer for the cases of an enum.
+//! The numbers of the proved code, read from the sources of the crates that have them: their constants, and what their
+//! functions answer for the cases of an enum.
 
 use std::collections::BTreeMap;
 use std::fs;
 use std::path::Path;
+
+/// The crates with numbers for boards.
+const WITH_NUMBERS: [&str; 2] = ["meaning", "text_assemble"];
 
 /// The sources, without comments.
 pub struct Code {
@@ -14,11 +17,14 @@ pub struct Code {
 
 impl Code {
     pub fn read() -> Code {
-        let folder = Path::new(env!("CARGO_MANIFEST_DIR")).join("../crates/meaning/src");
         let mut text = String::new();
-        for entry in fs::read_dir(&folder).expect("the sources of the crate meaning") {
-            let path = entry.expect("an entry can be read").path();
-            text += &fs::read_to_string(&path).expect("a source can be read");
+        for name in WITH_NUMBERS {
+            let folder =
+                Path::new(env!("CARGO_MANIFEST_DIR")).join(format!("../crates/{name}/src"));
+            for entry in fs::read_dir(&folder).expect("the sources of a crate") {
+                let path = entry.expect("an entry can be read").path();
+                text += &fs::read_to_string(&path).expect("a source can be read");
+            }
         }
         Code::of(&text)
     }

@@ -11,6 +11,7 @@ use gurvoke::parts::{Kind, Test};
 use gurvoke::record::{self, Phase};
 use gurvoke::refusals::{self, FILE_TOO_SHORT, NOTHING_AT_WORK};
 use gurvoke::sizes::{self, row};
+use gurvoke::text;
 
 use code::Code;
 use macros::{evaluate, object_macros};
@@ -122,7 +123,7 @@ fn numbers_of_the_papers() -> Numbers {
     numbers
 }
 
-fn limits_and_places() -> [(&'static str, usize); 32] {
+fn limits_and_places() -> [(&'static str, usize); 33] {
     [
         ("MAX_PARTS", sizes::MAX_PARTS),
         ("MAX_VARIABLES", sizes::MAX_VARIABLES),
@@ -146,6 +147,7 @@ fn limits_and_places() -> [(&'static str, usize); 32] {
         ("ROW", sizes::ROW_LEN),
         ("MAX_FILE", sizes::MAX_FILE_LEN),
         ("MAX_TABLE", sizes::MAX_TABLE_LEN),
+        ("MAX_TEXT", text::MAX_TEXT_LEN),
         ("PHASE_PLACE", record::PHASE),
         ("TIME_PLACE", record::TIME),
         ("ESTIMATE_PLACE", record::ESTIMATE),
@@ -175,7 +177,7 @@ fn numbers_of_the_proved_code() {
     assert_counts(file!(), "numbers_of_the_proved_code", &counts);
 }
 
-/// The refusals of the proved code are the paper's 15, in their order, and each has its number.
+/// The refusals of the proved code are the papers', in their order, and each has its number.
 #[test]
 fn refusals_of_the_proved_code() {
     let code = Code::read();

@@ -67,11 +67,6 @@ fn reaching(way: WayDown, from: usize, to: usize) -> Part {
     beneath(way, to.saturating_sub(from), leaf())
 }
 
-/// How many parts there are in a part, itself included.
-fn size(part: &Part) -> usize {
-    1 + part.children.iter().map(size).sum::<usize>()
-}
-
 /// What a test tries, and how it is answered.
 struct Trial {
     rng: Rng,
@@ -137,7 +132,7 @@ fn chains_of_each_length() {
         for bottom in [goal(0, 0), start(0), wait(equals(0, 0))] {
             let mut root = bottom;
             let mut depth = ROOT_DEPTH;
-            while size(&root) <= MAX_PARTS {
+            while root.size() <= MAX_PARTS {
                 trial.check(&root, depth);
                 root = way(root);
                 depth += 1;
@@ -249,11 +244,11 @@ fn check_crowds(trial: &mut Trial, join: Join, way: WayDown) {
 /// A program of most parts: as many of these siblings as there is room for, leaves before them in
 /// the room that is left, and the last one.
 fn filled(parents: impl Fn(Vec<Part>) -> Part, sibling: &Part, last: Part) -> Part {
-    let room = MAX_PARTS - size(&parents(vec![last.clone()]));
-    let mut children = vec![leaf(); room % size(sibling)];
-    children.extend(vec![sibling.clone(); room / size(sibling)]);
+    let room = MAX_PARTS - parents(vec![last.clone()]).size();
+    let mut children = vec![leaf(); room % sibling.size()];
+    children.extend(vec![sibling.clone(); room / sibling.size()]);
     children.push(last);
     let root = parents(children);
-    assert_eq!(size(&root), MAX_PARTS);
+    assert_eq!(root.size(), MAX_PARTS);
     root
 }

@@ -10,11 +10,11 @@ passed-over-requires c κs = search needs
 returns : tie.Need-returns
 returns c = (search passed-line, search passed-stored)
 
-slice-aggregate-is-word : tie.Need-slice-aggregate-is-word
-slice-aggregate-is-word c = search needs
+slice-aggregate-same : tie.Need-slice-aggregate-same
+slice-aggregate-same c = search needs
 
-is-word-requires : tie.Need-is-word-requires
-is-word-requires c κs = search needs
+same-requires : tie.Need-same-requires
+same-requires c κs = search needs
 
 read-pairs-requires : tie.Need-read-pairs-requires
 read-pairs-requires c κs = search needs
@@ -28,11 +28,11 @@ same-length c = search needs
 returns-2 : tie.Need-returns-2
 returns-2 c = (search begin-line, search begin-stored)
 
-slice-aggregate-is-word-2 : tie.Need-slice-aggregate-is-word-2
-slice-aggregate-is-word-2 c = search needs
+slice-aggregate-same-2 : tie.Need-slice-aggregate-same-2
+slice-aggregate-same-2 c = search needs
 
-is-word-requires-2 : tie.Need-is-word-requires-2
-is-word-requires-2 c κs = search needs
+same-requires-2 : tie.Need-same-requires-2
+same-requires-2 c κs = search needs
 
 offer-with-requires : tie.Need-offer-with-requires
 offer-with-requires c κs = search needs
@@ -40,11 +40,11 @@ offer-with-requires c κs = search needs
 returns-3 : tie.Need-returns-3
 returns-3 c = (search offer-line, search offer-stored)
 
-slice-aggregate-is-word-3 : tie.Need-slice-aggregate-is-word-3
-slice-aggregate-is-word-3 c = search needs
+slice-aggregate-same-3 : tie.Need-slice-aggregate-same-3
+slice-aggregate-same-3 c = search needs
 
-is-word-requires-3 : tie.Need-is-word-requires-3
-is-word-requires-3 c κs = search needs
+same-requires-3 : tie.Need-same-requires-3
+same-requires-3 c κs = search needs
 
 read-pairs-requires-2 : tie.Need-read-pairs-requires-2
 read-pairs-requires-2 c κs = search needs
@@ -67,18 +67,18 @@ line-by-word-spec =
     (tie.spec
     passed-over-requires
     returns
-    slice-aggregate-is-word
-    is-word-requires
+    slice-aggregate-same
+    same-requires
     read-pairs-requires
     begin-with-requires
     same-length
     returns-2
-    slice-aggregate-is-word-2
-    is-word-requires-2
+    slice-aggregate-same-2
+    same-requires-2
     offer-with-requires
     returns-3
-    slice-aggregate-is-word-3
-    is-word-requires-3
+    slice-aggregate-same-3
+    same-requires-3
     read-pairs-requires-2
     settle-with-requires
     same-length-2

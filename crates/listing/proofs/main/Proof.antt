@@ -22,11 +22,11 @@ arg-count-requires c κs = search needs
 array-share-prefix-name : tie.Need-array-share-prefix-name
 array-share-prefix-name c = search needs
 
-slice-aggregate-listing-request : tie.Need-slice-aggregate-listing-request
-slice-aggregate-listing-request c = search needs
+slice-aggregate-source-request : tie.Need-slice-aggregate-source-request
+slice-aggregate-source-request c = search needs
 
-listing-request-requires : tie.Need-listing-request-requires
-listing-request-requires c κs = search needs
+source-request-requires : tie.Need-source-request-requires
+source-request-requires c κs = search needs
 
 enum-told : tie.Need-enum-told
 enum-told c = search needs
@@ -89,8 +89,8 @@ main-spec =
     is-cut-requires
     arg-count-requires
     array-share-prefix-name
-    slice-aggregate-listing-request
-    listing-request-requires
+    slice-aggregate-source-request
+    source-request-requires
     enum-told
     slice-aggregate-read-whole
     slice-aggregate-read-whole-2

@@ -15,14 +15,14 @@ read-file-requires c κs = search needs
 enum-known-piece : tie.Need-enum-known-piece
 enum-known-piece c = search needs
 
-array-share-prefix-file : tie.Need-array-share-prefix-file
-array-share-prefix-file c = search file-inside
+array-share-prefix-input : tie.Need-array-share-prefix-input
+array-share-prefix-input c = search file-inside
 
-slice-aggregate-rehearse-program : tie.Need-slice-aggregate-rehearse-program
-slice-aggregate-rehearse-program c = sym (length-take-le _ _ (search file-inside))
+slice-aggregate-rehearse-input : tie.Need-slice-aggregate-rehearse-input
+slice-aggregate-rehearse-input c = sym (length-take-le _ _ (search file-inside))
 
-rehearse-program-requires : tie.Need-rehearse-program-requires
-rehearse-program-requires c κs = search needs
+rehearse-input-requires : tie.Need-rehearse-input-requires
+rehearse-input-requires c κs = search needs
 
 enum-told : tie.Need-enum-told
 enum-told c = search needs
@@ -40,9 +40,9 @@ rehearse-file-spec =
     slice-aggregate-read-file
     read-file-requires
     enum-known-piece
-    array-share-prefix-file
-    slice-aggregate-rehearse-program
-    rehearse-program-requires
+    array-share-prefix-input
+    slice-aggregate-rehearse-input
+    rehearse-input-requires
     enum-told
     returns
     returns-2)

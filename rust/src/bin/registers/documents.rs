@@ -13,13 +13,14 @@ const FOLDERS: [&str; 5] = ["crates", "docs", "examples", "include", "rust"];
 const PATTERN_SIGNS: [&str; 3] = ["*", "NAME", "target/"];
 
 /// The layers of the crates, each by the first words of its crates, the lowest first.
-const LAYERS: [&[&str]; 6] = [
+const LAYERS: [&[&str]; 7] = [
     &["base"],
     &["meaning", "agreement", "sentences", "stations", "demands"],
     &["program"],
     &["run"],
+    &["text"],
     &["desk"],
-    &["gurvoke", "listing", "rehearse"],
+    &["gurvoke", "assemble", "listing", "rehearse"],
 ];
 
 /// Libraries of the toolchain, which are no crates of the repository.

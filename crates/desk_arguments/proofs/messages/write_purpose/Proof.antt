@@ -30,6 +30,18 @@ write-word-requires-2 c κs =
     let told = c .before .before in
     same-room _ (ap purposeText (told .enum-told2 .given .1)) (told .before .before .before .pre)
 
+enum-told-3 : tie.Need-enum-told-3
+enum-told-3 c = search needs
+
+slice-aggregate-write-word-3 : tie.Need-slice-aggregate-write-word-3
+slice-aggregate-write-word-3 c = search needs
+
+write-word-requires-3 : tie.Need-write-word-requires-3
+unfolding purposeText
+write-word-requires-3 c κs =
+    let told = c .before .before in
+    same-room _ (ap purposeText (told .enum-told3 .given .1)) (told .before .before .before .pre)
+
 same-length : tie.Need-same-length
 same-length c = search needs
 
@@ -50,6 +62,16 @@ returns-2 c =
     let told = written .before .before .before in
     same-text (ap purposeText (told .enum-told2 .given .1)) (written .write-word2 .ensures)
 
+same-length-3 : tie.Need-same-length-3
+same-length-3 c = search needs
+
+returns-3 : tie.Need-returns-3
+unfolding purposeText
+returns-3 c =
+    let written = c .before .before in
+    let told = written .before .before .before in
+    same-text (ap purposeText (told .enum-told3 .given .1)) (written .write-word3 .ensures)
+
 pub write-purpose-spec : {M : Type 1} → statement M
 write-purpose-spec =
     tie.close
@@ -60,7 +82,12 @@ write-purpose-spec =
     enum-told-2
     slice-aggregate-write-word-2
     write-word-requires-2
+    enum-told-3
+    slice-aggregate-write-word-3
+    write-word-requires-3
     same-length
     returns
     same-length-2
-    returns-2)
+    returns-2
+    same-length-3
+    returns-3)

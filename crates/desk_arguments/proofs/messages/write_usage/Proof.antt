@@ -24,6 +24,15 @@ slice-aggregate-write-word-2 c = search needs
 write-word-requires-2 : tie.Need-write-word-requires-2
 write-word-requires-2 c κs = search needs
 
+enum-told-3 : tie.Need-enum-told-3
+enum-told-3 c = search needs
+
+slice-aggregate-write-word-3 : tie.Need-slice-aggregate-write-word-3
+slice-aggregate-write-word-3 c = search needs
+
+write-word-requires-3 : tie.Need-write-word-requires-3
+write-word-requires-3 c κs = search needs
+
 same-length : tie.Need-same-length
 same-length c = search needs
 
@@ -44,6 +53,16 @@ returns-2 c =
     let told = written .before .before .before in
     same-text (ap usageText (told .enum-told2 .given .1)) (written .write-word2 .ensures)
 
+same-length-3 : tie.Need-same-length-3
+same-length-3 c = search needs
+
+returns-3 : tie.Need-returns-3
+unfolding usageText
+returns-3 c =
+    let written = c .before .before in
+    let told = written .before .before .before in
+    same-text (ap usageText (told .enum-told3 .given .1)) (written .write-word3 .ensures)
+
 pub write-usage-spec : {M : Type 1} → statement M
 write-usage-spec =
     tie.close
@@ -54,7 +73,12 @@ write-usage-spec =
     enum-told-2
     slice-aggregate-write-word-2
     write-word-requires-2
+    enum-told-3
+    slice-aggregate-write-word-3
+    write-word-requires-3
     same-length
     returns
     same-length-2
-    returns-2)
+    returns-2
+    same-length-3
+    returns-3)

@@ -1,0 +1,5 @@
+pub mod Telling
+pub mod TwoForms
+pub mod Counting
+pub mod Saying
+pub mod Examples

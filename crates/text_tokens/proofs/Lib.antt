@@ -1,0 +1,4 @@
+pub mod Ends
+pub mod Decimals
+pub mod Classes
+pub mod Values
