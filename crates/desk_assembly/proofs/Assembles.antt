@@ -26,7 +26,8 @@ use Rattle.text_grammar.specs.Parser.{reading}
 use Rattle.text_grammar.specs.Assembling.{assembleRefusal, fileIn, assembledInto, Assembled}
 use Rattle.text_grammar.proofs.Exact.{reading-exact}
 use Rattle.text_grammar.proofs.Accepted.{text-accepted}
-use Rattle.text_assemble.specs.Packing.{StopsAt}
+use Rattle.text_stops.specs.Places.{stopPlace}
+use Rattle.text_stops.proofs.Stops.{stop-inside}
 use Rattle.desk_format.specs.Writing.{Written}
 use Rattle.desk_texts.specs.Words.{refusalText, maxWords}
 use Rattle.desk_texts.proofs.Saying.{words-fit}
@@ -65,6 +66,10 @@ module _ (t file : List ℕ) (z : assembleRefusal t (length file) ≡ 0) where
   length-told : lengthOf File (parts (assembledInto t file)) ≡ length (fileIn (reading t))
   length-told = ap (lengthOf File) same-parts ∙ sym whole ∙ ap length (sym file-of)
 
+-- The place for the words
+pub place-inside : (t : List ℕ) (place : ℕ) → place ≡ stopPlace t → place ≤ length t
+place-inside t place h = rw h (stop-inside t)
+
 -- By each answer
 module _ (t file file' words : List ℕ) (a : Answer) (h : Assembled t file (answerNumber a) file') where
   pub assembled-done : (n p : ℕ) → a ≡ Done → p ≡ parts file' → n ≡ lengthOf File p → Assembling t file file' words words (record { answer = a; length = n })
@@ -74,25 +79,21 @@ module _ (t file file' words : List ℕ) (a : Answer) (h : Assembled t file (ans
       record {
         answer-is = h .answer-is;
         file-is = h .buffer-is;
-        place = 0;
-        stops = λ refused. absurd (refused z);
         words-are = rw z;
         length-is = rw z (n-is ∙ ap (lengthOf File) (p-is ∙ ap parts (h .buffer-is)) ∙ length-told t file z);
       }
 
-  pub assembled-refused : (why : Refusal) (words' : List ℕ) (n place : ℕ) → a ≡ Refused why → StopsAt t place → Written (refusalText (refusalNumber why) t place) words 0 words' n
+  pub assembled-refused : (why : Refusal) (words' : List ℕ) (n place : ℕ) → a ≡ Refused why → place ≡ stopPlace t → Written (refusalText (refusalNumber why) t place) words 0 words' n
       → Assembling t file file' words words' (record { answer = Refused why; length = n })
   unfolding wordsOf
-  assembled-refused why words' n place told stops w =
+  assembled-refused why words' n place told place-is w =
       let number : refusalNumber why ≡ assembleRefusal t (length file) = ap answerNumber (sym told) ∙ h .answer-is in
       let no : eqb (assembleRefusal t (length file)) 0 ≡ false = ne-eqb (assembleRefusal t (length file)) 0 (is-refused a why (assembleRefusal t (length file)) (h .answer-is) told) in
       record {
         answer-is = number;
         file-is = h .buffer-is;
-        place = place;
-        stops = λ _. stops;
-        words-are = rw (no, ← number) (w .bytes);
-        length-is = rw (no, ← number) (w .after ∙ zero-add (length (refusalText (refusalNumber why) t place)));
+        words-are = rw (no, ← number, ← place-is) (w .bytes);
+        length-is = rw (no, ← number, ← place-is) (w .after ∙ zero-add (length (refusalText (refusalNumber why) t place)));
       }
 
 -- An accepted text's file stands at the buffer's begin, and is the file that the text means
@@ -122,5 +123,5 @@ module _ (t file file' words words' : List ℕ) (a : Assembly) (h : Assembling t
   words-inside why told =
       let n = assembleRefusal t (length file) in
       let no : eqb n 0 ≡ false = ne-eqb n 0 (is-refused (a .answer) why n (h .answer-is) told) in
-      let size : a .length ≡ length (refusalText n t (h .place)) = h .length-is ∙ rw no in
-      omega (arith, size, words-fit n t (h .place))
+      let size : a .length ≡ length (refusalText n t (stopPlace t)) = h .length-is ∙ rw no in
+      omega (arith, size, words-fit n t (stopPlace t))

@@ -2,12 +2,13 @@
 -- names; and which records are allowed, each bound from both sides.
 use Prim.Native.Nat.{ℕ}
 use mathlib.Core.Path.{refl}
-use mathlib.Core.Bool.{Bool, true, false}
+use mathlib.Core.Bool.{Bool, true, false, _&&_}
 use mathlib.Core.List.{List, [], _∷_, _++_}
 use lib.ListN.{take, replicate}
 use lib.Seq.{sets}
 use Rattle.meaning.specs.declared.Form.the-variants.{File}
-use Rattle.meaning.specs.Record.{recordBytes}
+use Rattle.meaning.specs.Program.{parts}
+use Rattle.meaning.specs.Record.{padded, recordBytes, rootAllowed, partsAllowed}
 use Rattle.meaning.specs.Table.{compiled, compiledInto, decompiledInto}
 use Rattle.meaning.specs.Cycle.{lowestContested, freshRecord, begunInto, offeredName, offeredInto, goalsInto, settledInto}
 use Rattle.meaning.proofs.Computed.{_gets_, Holds, file, decompile, allowed, offer, settle}
@@ -222,10 +223,12 @@ pub allowed-fields : Holds
 unfolding allowed
 allowed-fields = refl
 
--- Whether a record of the second program is allowed: by the root's mark and those of the parts inside it; as these are when it begins, and with
--- other marks for one child and for what is inside that
+-- Whether marks of the second program are allowed: that of the root and those of the parts inside it; as these are when it begins, and with other marks
+-- for one child and for what is inside that
 abbrev marked : ℕ → ℕ → List ℕ → Bool
-marked phase root inside = allowed everyTable (recordBytes phase 0 (0 ∷ []) [] [] (root ∷ inside))
+marked phase root inside =
+    let marks = padded (parts everyTable) (root ∷ inside) in
+    rootAllowed phase marks && partsAllowed everyTable phase 0 marks
 
 abbrev fresh : List ℕ
 fresh = 1 ∷ 1 ∷ 0 ∷ 1 ∷ 1 ∷ 1 ∷ 0 ∷ 0 ∷ 1 ∷ 1 ∷ 1 ∷ []

@@ -1,3 +1,4 @@
+pub mod ByTree
 pub mod Stations
 pub mod Any
 pub mod Doubtful

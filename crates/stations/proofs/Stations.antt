@@ -1,5 +1,5 @@
 -- The ten stations and the further programs hold, by the table's definitions and by the unfolding: one fact over the tables of them, computed table by
--- table.
+-- table. The runs of document 02's R-2 and R-4 are computed by the unfolding alone; by the table they hold because the two runs are alike.
 use mathlib.Core.Path.{_≡_, refl}
 use mathlib.Core.Bool.{Bool, true}
 use mathlib.Core.List.{List}
@@ -8,6 +8,7 @@ use Rattle.meaning.proofs.Computed.{settle as settleCall}
 use Rattle.agreement.specs.Unfolding.{afresh, check, working, settle}
 use Rattle.agreement.specs.Runs.{treeNext, treeReply, tableFinishing, treeFinishing, lowestAtWork, startEach}
 use Rattle.stations.specs.Stations.{Station, stations, further, contestedStations, restartedStations, silentStations, sameReply, sameReplies, byTable, byTree, holds, allHold}
+use Rattle.stations.proofs.ByTree.{timely, all-hold}
 
 -- to unfold this is to unfold all that a station is computed with
 unfoldable allOf : List Station → Bool
@@ -27,12 +28,12 @@ unfolding contestedStations allOf
 contested-hold = refl
 
 restarted-hold : allOf restartedStations ≡ true
-unfolding restartedStations allOf
-restarted-hold = refl
+unfolding restartedStations allOf timely
+restarted-hold = all-hold restartedStations refl
 
 silent-hold : allOf silentStations ≡ true
-unfolding silentStations allOf
-silent-hold = refl
+unfolding silentStations allOf timely
+silent-hold = all-hold silentStations refl
 
 pub ten-stations : allHold ≡ true
 unfolding allOf

@@ -31,13 +31,16 @@ use Rattle.text_grammar.specs.Tokens.{Token}
 use Rattle.text_grammar.specs.Lexer.{tokens, tokensFrom}
 use Rattle.text_grammar.specs.Parser.{Parsed, got, stopped, parseText, whole, reading}
 use Rattle.text_grammar.specs.Assembling.{textTests, assembleTests, refusalOf, assembleRefusal, fileIn, assembledInto, Assembled}
+use Rattle.text_stops.specs.Places.{placeOfLast, stopPlace}
+use Rattle.text_stops.proofs.Places.{place-reached}
+use Rattle.text_stops.proofs.Stops.{stop-accepted, stop-at-last}
 use Rattle.text_tokens.specs.First.{Skipped}
 use Rattle.text_parts.specs.Stored.{partLength, Stands}
 use Rattle.text_grammar.proofs.Accepted.{as-for-files}
 use Rattle.text_read.specs.declared.Reading.{Reading}
 use Rattle.text_read.specs.declared.Reading.the-variants.{Program, Stops}
 use Rattle.text_read.specs.Reading.{ReadsText}
-use Rattle.text_assemble.specs.Packing.{packedEntries, packedFile, packedRefusal, Written, StopsAt}
+use Rattle.text_assemble.specs.Packing.{packedEntries, packedFile, packedRefusal, Written}
 use Rattle.text_assemble.proofs.Arrays.{packed-length}
 use Rattle.text_assemble.proofs.Clamping.{clampedEntry, all-clamped, packed-are, unclamped, counts-fit}
 
@@ -242,25 +245,26 @@ assembled t out short z r b d n v k h c e w a out' u fits =
     let f = refusal-is x b n v k (s .variables-are) (s .clocks-are) ns es range small (length out) in
     record { answer-is = rw (reading-is t out short z r b d n v k h) (q .0 ∙ sym f); buffer-is = rw (reading-is t out short z r b d n v k h) (q .1 ∙ rw f) }
 
--- `stop_place`
-pub stop-too-long : (t : List ℕ) → maxTextLength < length t → StopsAt t maxTextLength
-stop-too-long t h = record { inside = omega arith; stop-is = λ short rest e. absurd (omega arith) }
+-- `stop_place`, by what was read
+module _ (t : List ℕ) (short : length t ≤ maxTextLength) (z : List ℕ) (r : Reading) (b : List ℕ) where
+  read-to-end : (o : Parsed Text) → parseText (tokens t) ≡ o → (n v k : ℕ) → ReadsText t z r b o → r ≡ Program n v k → length t ≡ stopPlace t
+  unfolding ReadsText
+  read-to-end (got x rest) e n v k d h = stop-accepted t short x rest e
+  read-to-end (stopped rest) e n v k d h = let i : Stops (d .place) ≡ Program n v k = cc in let w : _≡_ {A = ℕ} 0 1 = cc in absurd (omega arith)
 
-stop-of : (t z : List ℕ) (r : Reading) (b : List ℕ) (o : Parsed Text) (p : ℕ) → ReadsText t z r b o → r ≡ Stops p → (p ≤ length t) × ((rest : List Token) → o ≡ stopped rest → tokensFrom t p ≡ rest)
-unfolding ReadsText
-stop-of t z r b (got x rest) p d h = let i : Program (d .parts) (x .variables) (x .clocks) ≡ Stops p = cc in let w : _≡_ {A = ℕ} 0 1 = cc in absurd (omega arith)
-stop-of t z r b (stopped us) p d h = let i : d .place ≡ p = cc in (rw (← i) (d .inside), λ rest e. let j : us ≡ rest = cc in ap (tokensFrom t) (sym i) ∙ d .rest-is ∙ j)
+  -- i is the place of the token, or of the text's end, from p on
+  read-to-stop : (o : Parsed Text) → parseText (tokens t) ≡ o → (p i : ℕ) → ReadsText t z r b o → r ≡ Stops p → Skipped t p i → i ≡ stopPlace t
+  unfolding ReadsText
+  read-to-stop (got x rest) e p i d h s = let j : Program (d .parts) (x .variables) (x .clocks) ≡ Stops p = cc in let w : _≡_ {A = ℕ} 0 1 = cc in absurd (omega arith)
+  read-to-stop (stopped rest) e p i d h s =
+      let j : d .place ≡ p = cc in
+      let left : tokensFrom t i ≡ rest = s .same-tokens ∙ ap (tokensFrom t) (sym j) ∙ d .rest-is in
+      place-reached t i (s .within (rw (← j) (d .inside))) (s .no-blank) (s .uncut (rw (← j) (d .uncut)))
+      ∙ ap (λ (us : List Token). placeOfLast t (length us)) left ∙ stop-at-last t short rest e
 
-no-stop : (t z : List ℕ) (r : Reading) (b : List ℕ) (o : Parsed Text) (n v k : ℕ) → ReadsText t z r b o → r ≡ Program n v k → (rest : List Token) → o ≡ stopped rest → ⊥
-unfolding ReadsText
-no-stop t z r b (got x us) n v k d h rest e = let w : _≡_ {A = ℕ} 0 1 = cc in omega arith
-no-stop t z r b (stopped us) n v k d h rest e = let i : Stops (d .place) ≡ Program n v k = cc in let w : _≡_ {A = ℕ} 0 1 = cc in omega arith
+  module _ (d : ReadsText t z r b (parseText (tokens t))) where
+    pub stop-nowhere : (n v k : ℕ) → r ≡ Program n v k → length t ≡ stopPlace t
+    stop-nowhere n v k h = read-to-end (parseText (tokens t)) refl n v k d h
 
-module _ (t z : List ℕ) (r : Reading) (b : List ℕ) (d : ReadsText t z r b (parseText (tokens t))) where
-  pub stop-nowhere : (n v k : ℕ) → r ≡ Program n v k → StopsAt t (length t)
-  stop-nowhere n v k h = record { inside = omega arith; stop-is = λ short rest e. absurd (no-stop t z r b (parseText (tokens t)) n v k d h rest e) }
-
-  pub stop-at : (p i : ℕ) → r ≡ Stops p → Skipped t p i → StopsAt t i
-  stop-at p i h s =
-      let w = stop-of t z r b (parseText (tokens t)) p d h in
-      record { inside = s .within (w .0); stop-is = λ short rest e. s .same-tokens ∙ w .1 rest e }
+    pub stop-there : (p i : ℕ) → r ≡ Stops p → Skipped t p i → i ≡ stopPlace t
+    stop-there p i h s = read-to-stop (parseText (tokens t)) refl p i d h s

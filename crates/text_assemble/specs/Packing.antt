@@ -1,5 +1,5 @@
 -- The program file that is made of parts in a buffer.
-use Prim.Native.Nat.{ℕ, _+_, _*_, _≤_}
+use Prim.Native.Nat.{ℕ, _+_, _*_}
 use mathlib.Core.Path.{_≡_}
 use mathlib.Core.Bool.{cond}
 use mathlib.Core.List.{List, _++_}
@@ -12,10 +12,6 @@ use Rattle.meaning.specs.declared.Form.the-variants.{File}
 use Rattle.meaning.specs.Sizes.{kindLength}
 use Rattle.meaning.specs.Program.{operandAt, sizeBytes, arrays, programRefusal}
 use Rattle.meaning.specs.Answers.{bufferTooShort}
-use Rattle.text_grammar.specs.Tokens.{Token}
-use Rattle.text_grammar.specs.Texts.{maxTextLength}
-use Rattle.text_grammar.specs.Lexer.{tokens, tokensFrom}
-use Rattle.text_grammar.specs.Parser.{stopped, parseText}
 use Rattle.text_parts.specs.Stored.{partLength}
 
 -- the entry of part p in the buffer, and those of the first n parts
@@ -36,8 +32,3 @@ packedRefusal f room = cond (eqb (programRefusal File f) 0) (cond (leb (length f
 pub record Written (f out : List ℕ) (answer : ℕ) (out' : List ℕ) : Type 0 where
   pub answer-is : answer ≡ packedRefusal f (length out)
   pub buffer-is : out' ≡ cond (eqb (packedRefusal f (length out)) 0) (sets out 0 f) out
-
--- The place from which on a text is no longer read, where it is not too long: the tokens from there on are those with whose first no reading goes on
-pub record StopsAt (t : List ℕ) (r : ℕ) : Type 0 where
-  pub inside : r ≤ length t
-  pub stop-is : length t ≤ maxTextLength → (rest : List Token) → parseText (tokens t) ≡ stopped rest → tokensFrom t r ≡ rest

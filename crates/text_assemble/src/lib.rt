@@ -23,8 +23,9 @@ ghost use Rattle.meaning.specs.Sizes.{maxParts};
 ghost use Rattle.meaning.specs.Program.{sizesInRange};
 ghost use Rattle.meaning.specs.Answers.{answerNumber};
 ghost use Rattle.text_grammar.specs.Assembling.{Assembled};
+ghost use Rattle.text_stops.specs.Places.{stopPlace};
 ghost use Rattle.text_parts.specs.Stored.{partLength};
-ghost use Rattle.text_assemble.specs.Packing.{packedFile, Written, StopsAt};
+ghost use Rattle.text_assemble.specs.Packing.{packedFile, Written};
 
 // The length of the longest text.
 pub const MAX_TEXT: usize = 16384;
@@ -87,10 +88,10 @@ fn write_checked(whole: &[u8], size: usize, file: &mut [u8]) -> Answer
     Answer::Done
 }
 
-// Where a text that is refused with 16 stops to be one: the place of the first byte of the first token with which no
-// text goes on, the text's end where it ends too early, or the longest length where it is longer.
+// Where a text stops to fit the grammar: the place of the first token with which no text goes on, the text's end where
+// that comes too early or the text fits, or the longest length where the text is longer.
 pub fn stop_place(text: &[u8]) -> usize
-    ensures { λ r. ⌜ StopsAt (now (text .entry)) r ⌝ }
+    ensures { λ r. ⌜ r ≡ stopPlace (now (text .entry)) ⌝ }
 {
     if MAX_TEXT < text.len() {
         return MAX_TEXT;

@@ -69,7 +69,7 @@ gap-law [] t h = refl
 gap-law (b ∷ gap) t h = blank-step b (gap ++ t) (and-left (isBlank b) (all isBlank gap) h) ∙ gap-law gap t (and-right (isBlank b) (all isBlank gap) h)
 
 -- a run of letters and digits
-all-snoc : (run : List ℕ) (b : ℕ) → all isWordByte run ≡ true → isWordByte b ≡ true → all isWordByte (run ++ (b ∷ [])) ≡ true
+pub all-snoc : (run : List ℕ) (b : ℕ) → all isWordByte run ≡ true → isWordByte b ≡ true → all isWordByte (run ++ (b ∷ [])) ≡ true
 all-snoc [] b h e = rw e
 all-snoc (c ∷ run) b h e = rw (and-left (isWordByte c) (all isWordByte run) h, all-snoc run b (and-right (isWordByte c) (all isWordByte run) h) e)
 
@@ -77,7 +77,7 @@ joins-word : (c : ℕ) (run : List ℕ) (b : ℕ) → all isWordByte (c ∷ run)
 unfolding joins
 joins-word c run b h e = rw (h, e)
 
-word-differs : (run : List ℕ) (k : ℕ) → all isWordByte run ≡ true → isWordByte k ≡ false → same run (k ∷ []) ≡ false
+pub word-differs : (run : List ℕ) (k : ℕ) → all isWordByte run ≡ true → isWordByte k ≡ false → same run (k ∷ []) ≡ false
 word-differs run k h e = go (same run (k ∷ [])) refl
   where
     go : (x : Bool) → same run (k ∷ []) ≡ x → x ≡ false

@@ -142,7 +142,7 @@ mutual
       (λ s after e. let a = shorter writeStep step-longer ts (stepWithin f ts) (step-written f ts) s after e in
       sequence-rest-same (sequenceWithin f) (sequenceWithin g) (length ts) (λ us l. sequence-enough f g us (omega arith) (omega arith)) s after (omega arith)))
 
-  body-enough : (f g : ℕ) (ts : List Token) → 3 * length ts + 3 ≤ f → 3 * length ts + 3 ≤ g → bodyWithin f ts ≡ bodyWithin g ts
+  pub body-enough : (f g : ℕ) (ts : List Token) → 3 * length ts + 3 ≤ f → 3 * length ts + 3 ≤ g → bodyWithin f ts ≡ bodyWithin g ts
   body-enough zero g ts h i = absurd (omega arith)
   body-enough (suc f) zero ts h i = absurd (omega arith)
   body-enough (suc f) (suc g) ts h i =

@@ -13,6 +13,7 @@ use Rattle.text_grammar.specs.Trees.{operandOf, testNumber, conditionOperand}
 use Rattle.text_grammar.specs.Lexer.{tokensFrom}
 use Rattle.text_grammar.specs.Parser.{got, stopped, bind, onMark, expect, parseNumber, parseClock, parseValue, parseCondition}
 use Rattle.text_grammar.proofs.Parsing.{bind-same, mark-same}
+use Rattle.text_stops.specs.Places.{cutAt}
 use Rattle.text_tokens.specs.First.{markNumber, noToken, firstKind, firstValue, laterTokens, Passed}
 use Rattle.text_parts.specs.Stored.{partLength, clamped}
 use Rattle.text_read.specs.declared.Read.{Read}
@@ -32,14 +33,20 @@ module _ (t : List ℕ) where
   pub inside-of : (read : Read) (e n : ℕ) → read ≡ Ends e n → Room t (placeOf read) (partsOf read) → e ≤ length t
   inside-of read e n h r = room-of read e n h r .inside
 
+  pub uncut-of : (read : Read) (e n : ℕ) → read ≡ Ends e n → Room t (placeOf read) (partsOf read) → cutAt t e ≡ 0
+  uncut-of read e n h r = room-of read e n h r .uncut
+
   pub moves-of : (read : Read) (e n e' n' : ℕ) → read ≡ Ends e n → Moves t e n e' n' → Moves t (placeOf read) (partsOf read) e' n'
   moves-of read e n e' n' h m = rw h m
 
+  pub moved-uncut : (from n : ℕ) (read : Read) (e m : ℕ) → read ≡ Ends e m → Moves t from n (placeOf read) (partsOf read) → cutAt t e ≡ 0
+  moved-uncut from n read e m h w = let i : Moves t from n e m = rw h at w in i .uncut
+
   pub moves-nowhere : (e n : ℕ) → Room t e n → Moves t e n e 0
-  moves-nowhere e n r = record { onward = omega arith; inside = r .inside; parts-fit = omega arith }
+  moves-nowhere e n r = record { onward = omega arith; inside = r .inside; uncut = r .uncut; parts-fit = omega arith }
 
   pub moves-none : (e n : ℕ) → Room t e n → Moves t e n e n
-  moves-none e n r = record { onward = omega arith; inside = r .inside; parts-fit = omega arith }
+  moves-none e n r = record { onward = omega arith; inside = r .inside; uncut = r .uncut; parts-fit = omega arith }
 
   -- `expect`
   module _ (read : Read) (number : ℕ) where
@@ -69,7 +76,7 @@ module _ (t : List ℕ) where
   missing-moves read e n h r = moves-of read e n e 0 h (moves-nowhere e n (room-of read e n h r))
 
   pub expect-moves : (read : Read) (e n e' : ℕ) → read ≡ Ends e n → Passed t e e' → Moves t (placeOf read) (partsOf read) e' n
-  expect-moves read e n e' h p = moves-of read e n e' n h (record { onward = p .onward; inside = p .within; parts-fit = omega (arith, p .onward) })
+  expect-moves read e n e' h p = moves-of read e n e' n h (record { onward = p .onward; inside = p .within; uncut = p .uncut; parts-fit = omega (arith, p .onward) })
 
   -- `valued`
   module _ (b : List ℕ) (from n kind b0 subject number : ℕ) (k : number ≡ firstKind (tokensFrom t from)) where
@@ -89,7 +96,7 @@ module _ (t : List ℕ) where
     pub value-moves : (e' : ℕ) → number ≡ 17 → Passed t from e' → Moves t from n e' (n + 1)
     value-moves e' g p =
         let further : from < e' = p .further (λ z. let x : 17 ≡ noToken = sym g ∙ k ∙ z in omega arith) in
-        record { onward = p .onward; inside = p .within; parts-fit = omega arith }
+        record { onward = p .onward; inside = p .within; uncut = p .uncut; parts-fit = omega arith }
 
   -- `tested`: the sign stands at place `place`
   module _ (b : List ℕ) (from n kind : ℕ) (first second : SignTest) (place sign : ℕ) (p : Passed t from place) (k : sign ≡ firstKind (tokensFrom t place)) where
@@ -187,7 +194,7 @@ module _ (t b : List ℕ) (from n kind : ℕ) (k : kind ≡ firstKind (tokensFro
   pub start-moves : (e' : ℕ) → kind ≡ 19 → Passed t from e' → Moves t from n e' (n + 1)
   start-moves e' g p =
       let further : from < e' = p .further (λ z. let x : 19 ≡ noToken = sym g ∙ k ∙ z in omega arith) in
-      record { onward = p .onward; inside = p .within; parts-fit = omega arith }
+      record { onward = p .onward; inside = p .within; uncut = p .uncut; parts-fit = omega arith }
 
 -- `brackets`: one more bracket
 openings-more : (k : ℕ) (ts : List Token) → openings k (mark opening ∷ ts) ≡ openings (suc k) ts
@@ -203,9 +210,9 @@ module _ (t : List ℕ) (from : ℕ) where
   pub bracket-less : (place kind next : ℕ) → kind ≡ firstKind (tokensFrom t place) → kind ≡ 14 → Passed t place next → length t - next < length t - place
   bracket-less place kind next k g p = let further = bracket-passed place kind next k g p in omega (arith, p .within)
 
-  pub bracket-none : from ≤ length t → Bracketed t from 0 from
+  pub bracket-none : from ≤ length t → cutAt t from ≡ 0 → Bracketed t from 0 from
   unfolding openings
-  bracket-none h = record { tokens-are = refl; onward = omega arith; inside = h }
+  bracket-none h w = record { tokens-are = refl; onward = omega arith; inside = h; uncut = w }
 
   pub bracket-more : (count place kind next : ℕ) → Bracketed t from count place → kind ≡ firstKind (tokensFrom t place) → kind ≡ 14 → Passed t place next → Bracketed t from (count + 1) next
   unfolding markNumber
@@ -215,4 +222,5 @@ module _ (t : List ℕ) (from : ℕ) where
         rw n (h .tokens-are ∙ ap (openings count) (first-mark opening (tokensFrom t place) (sym k ∙ g)) ∙ openings-more count (laterTokens (tokensFrom t place)) ∙ ap (openings (suc count)) (sym (p .later)));
     onward = let further = bracket-passed place kind next k g p in omega (arith, h .onward);
     inside = p .within;
+    uncut = p .uncut;
   }

@@ -11,6 +11,7 @@ use Rattle.text_grammar.specs.Trees.{bodyTree}
 use Rattle.text_grammar.specs.Texts.{maxTextLength}
 use Rattle.text_grammar.specs.Lexer.{tokensFrom}
 use Rattle.text_grammar.specs.Parser.{Parsed, got, stopped, bind}
+use Rattle.text_stops.specs.Places.{cutAt}
 use Rattle.text_tokens.specs.First.{markNumber, firstValue, laterTokens}
 use Rattle.text_parts.specs.Stored.{Stands}
 use Rattle.text_read.specs.declared.Read.{Read}
@@ -66,16 +67,18 @@ abbrev pub partsOf : Read → ℕ
 partsOf (Ends e n) = n
 partsOf (Stops e) = 0
 
--- What a reader asks of a place and of the number of parts before it: each part has a byte of the text
+-- What a reader asks of a place and of the number of parts before it: no token is cut there, and each part has a byte of the text
 pub record Room (t : List ℕ) (e n : ℕ) : Type 0 where
   pub short-enough : length t ≤ maxTextLength
   pub inside : e ≤ length t
+  pub uncut : cutAt t e ≡ 0
   pub parts-fit : n ≤ e
 
 -- From place e and n parts to place e' and n' parts: each new part has a byte of the text
 pub record Moves (t : List ℕ) (e n e' n' : ℕ) : Type 0 where
   pub onward : e ≤ e'
   pub inside : e' ≤ length t
+  pub uncut : cutAt t e' ≡ 0
   pub parts-fit : n' + e ≤ n + e'
 
 -- so many opening brackets, and then these tokens
@@ -88,18 +91,21 @@ pub record Bracketed (t : List ℕ) (from brackets place : ℕ) : Type 0 where
   pub tokens-are : tokensFrom t from ≡ openings brackets (tokensFrom t place)
   pub onward : from + brackets ≤ place
   pub inside : place ≤ length t
+  pub uncut : cutAt t place ≡ 0
 
 -- The sizes of a text, and the place after its colon
 pub record HeaderEnded (t : List ℕ) (r : Header) (s : SizesRead) (rest : List Token) : Type 0 where
   pub next : ℕ
   pub answer-is : r ≡ Sizes (s .variables) (s .clocks) next
   pub inside : next ≤ length t
+  pub uncut : cutAt t next ≡ 0
   pub rest-is : tokensFrom t next ≡ rest
 
 pub record HeaderStopped (t : List ℕ) (r : Header) (rest : List Token) : Type 0 where
   pub place : ℕ
   pub answer-is : r ≡ HeaderStops place
   pub inside : place ≤ length t
+  pub uncut : cutAt t place ≡ 0
   pub rest-is : tokensFrom t place ≡ rest
 
 unfoldable pub ReadsHeader : List ℕ → Header → Parsed SizesRead → Type 0
@@ -116,6 +122,7 @@ pub record TextStopped (t : List ℕ) (r : Reading) (rest : List Token) : Type 0
   pub place : ℕ
   pub answer-is : r ≡ TextStops place
   pub inside : place ≤ length t
+  pub uncut : cutAt t place ≡ 0
   pub rest-is : tokensFrom t place ≡ rest
 
 unfoldable pub ReadsText : List ℕ → List ℕ → Reading → List ℕ → Parsed Text → Type 0

@@ -25,6 +25,7 @@ ghost use Prim.Native.Nat.{_≤_};
 ghost use lib.ListN.{length};
 ghost use Rattle.text_grammar.specs.Texts.{maxTextLength};
 ghost use Rattle.text_grammar.specs.Lexer.{tokensFrom};
+ghost use Rattle.text_stops.specs.Places.{cutAt};
 ghost use Rattle.text_tokens.specs.First.{firstKind, firstValue, laterTokens, Passed};
 ghost use Rattle.text_read.specs.Entries.{valueEntries, conditionEntries, goalEntries, startEntries};
 ghost use Rattle.text_read.specs.Reading.{Does, Passes, TestsOne, Room, Moves, Bracketed, placeOf, partsOf};
@@ -190,6 +191,7 @@ pub struct Opened {
 pub(crate) fn brackets(t: &[u8], from: u16) -> Opened
     requires { ⌜ length (now t) ≤ maxTextLength ⌝ }
     requires { ⌜ from ≤ length (now t) ⌝ }
+    requires { ⌜ cutAt (now t) from ≡ 0 ⌝ }
     ensures { λ r. ⌜ Bracketed (now (t .entry)) from (r .count) (r .place) ⌝ }
 {
     let mut place = from;

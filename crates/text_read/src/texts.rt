@@ -9,11 +9,13 @@ use crate::steps::body;
 use text_tokens::kinds::COLON;
 use text_tokens::kinds::NO_TOKEN;
 use text_tokens::kinds::NUMBER;
+ghost use mathlib.Core.Path.{_≡_};
 ghost use Prim.Native.Nat.{_≤_};
 ghost use lib.ListN.{length};
 ghost use Rattle.text_grammar.specs.Texts.{maxTextLength};
 ghost use Rattle.text_grammar.specs.Lexer.{tokens, tokensFrom};
 ghost use Rattle.text_grammar.specs.Parser.{parseText};
+ghost use Rattle.text_stops.specs.Places.{cutAt};
 ghost use Rattle.text_read.specs.Entries.{parseHeader, parseProgram};
 ghost use Rattle.text_read.specs.Reading.{ReadsHeader, ReadsText};
 
@@ -40,6 +42,7 @@ fn read_header(t: &[u8]) -> Header
 fn read_program(t: &[u8], from: u16, parts: &mut [u8], v: u16, k: u16) -> Reading
     requires { ⌜ length (now t) ≤ maxTextLength ⌝ }
     requires { ⌜ from ≤ length (now t) ⌝ }
+    requires { ⌜ cutAt (now t) from ≡ 0 ⌝ }
     ensures { λ r. ⌜ ReadsText (now (t .entry)) (now (parts .entry)) r (now (parts .exit)) (parseProgram v k (tokensFrom (now (t .entry)) from)) ⌝ }
 {
     let read = body(t, from, parts, 0);

@@ -9,6 +9,7 @@ use Rattle.base.specs.Lists.{all, same}
 use Rattle.text_grammar.specs.Characters.{isBlank, isWordByte}
 use Rattle.text_grammar.specs.Tokens.{Mark, startWord, waitWord, maintainWord, repeatWord, ifWord, thenWord, elseWord, equalSign, differsSign, atLeastSign, belowSign, semicolon, comma, opening, closing, colon, Token, mark, number, variable, clock, unknown, spelling, decimal, maxNumber, isNumber, tokenOf}
 use Rattle.text_grammar.specs.Lexer.{tokensFrom}
+use Rattle.text_stops.specs.Places.{cutAt}
 
 -- the numbers of the marks, in the order of `marks`
 unfoldable pub markNumber : Mark → ℕ
@@ -78,6 +79,7 @@ pub record Skipped (t : List ℕ) (from i : ℕ) : Type 0 where
   pub within : from ≤ length t → i ≤ length t
   pub same-tokens : tokensFrom t i ≡ tokensFrom t from
   pub no-blank : i < length t → isBlank (getD t i 0) ≡ false
+  pub uncut : cutAt t from ≡ 0 → cutAt t i ≡ 0
 
 -- letters and digits stand from i up to e, and none at e
 pub record WordEnds (t : List ℕ) (i e : ℕ) : Type 0 where
@@ -91,6 +93,7 @@ pub record RunEnds (t : List ℕ) (i e : ℕ) : Type 0 where
   pub onward : i < e
   pub within : e ≤ length t
   pub first-is : tokensFrom t i ≡ tokenOf (take (e - i) (drop i t)) ∷ tokensFrom t e
+  pub uncut : cutAt t e ≡ 0
 
 -- the first token from `from` on, if there is one, ends at e
 pub record Passed (t : List ℕ) (from e : ℕ) : Type 0 where
@@ -98,3 +101,4 @@ pub record Passed (t : List ℕ) (from e : ℕ) : Type 0 where
   pub further : firstKind (tokensFrom t from) ≢ noToken → from < e
   pub within : e ≤ length t
   pub later : tokensFrom t e ≡ laterTokens (tokensFrom t from)
+  pub uncut : cutAt t e ≡ 0

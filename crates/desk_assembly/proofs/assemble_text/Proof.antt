@@ -1,6 +1,6 @@
 -- `assemble_text` meets its contract: one law for each answer.
 use borrow.Author.Needs.{needs}
-use Rattle.desk_assembly.proofs.Assembles.{assembled-done, assembled-refused}
+use Rattle.desk_assembly.proofs.Assembles.{place-inside, assembled-done, assembled-refused}
 use Rattle.desk_assembly.proofs.assemble_text.Statement.{statement}
 use Rattle.desk_assembly.proofs.assemble_text.Tie as tie
 
@@ -23,7 +23,7 @@ stop-place-requires : tie.Need-stop-place-requires
 stop-place-requires c κs = search needs
 
 write-words-requires : tie.Need-write-words-requires
-write-words-requires c κs = search needs
+write-words-requires c κs = search place-inside
 
 same-length : tie.Need-same-length
 same-length c = search needs

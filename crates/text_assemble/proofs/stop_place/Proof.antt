@@ -1,5 +1,6 @@
 -- `stop_place` meets its contract: one law for each answer.
-use Rattle.text_assemble.proofs.Operation.{stop-too-long, stop-nowhere, stop-at}
+use Rattle.text_stops.proofs.Stops.{stop-too-long}
+use Rattle.text_assemble.proofs.Operation.{stop-nowhere, stop-there}
 use borrow.Author.Needs.{needs}
 use Rattle.text_assemble.proofs.stop_place.Statement.{statement}
 use Rattle.text_assemble.proofs.stop_place.Tie as tie
@@ -29,7 +30,7 @@ skip-blanks-requires : tie.Need-skip-blanks-requires
 skip-blanks-requires c κs = search needs
 
 returns-3 : tie.Need-returns-3
-returns-3 c = search stop-at
+returns-3 c = search stop-there
 
 pub stop-place-spec : {M : Type 1} → statement M
 stop-place-spec =

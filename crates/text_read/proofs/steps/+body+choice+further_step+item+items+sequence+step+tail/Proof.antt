@@ -5,9 +5,10 @@ use mathlib.Core.Path.{_≡_, refl, ap}
 use lib.ListN.{length}
 use native.Mathlib.Omega.{arith}
 use borrow.Author.Needs.{needs}
+use Rattle.text_stops.specs.Places.{cutAt}
 use Rattle.text_read.specs.Reading.{placeOf, partsOf, Moves}
 use Rattle.text_read.proofs.Doing.{stays-stopped}
-use Rattle.text_read.proofs.Plain.{moves-none, moves-of}
+use Rattle.text_read.proofs.Plain.{room-of, uncut-of, moves-of, moved-uncut, moves-none}
 use Rattle.text_read.proofs.Readers.{step-goal, step-start, step-wait, step-maintain, step-repeat, step-if, step-group, step-none, step-further, stopped-further, Joining, joining-starts, joining-more, joining-stops, joining-ends, sequence-read, tail-read, choice-read, Enclosing, enclosing-starts, enclosing-more, enclosing-ends, begun, mark-begun, joined-fits, item-step, item-sequence}
 use Prim.Native.Nat.{ℕ, _<_}
 use borrow.Fn.Kinds.{In}
@@ -365,7 +366,7 @@ further-step-step-requires : (t : ℕ) → further-step-lts.Need-step-requires (
   step-below t,
   step.Post,
 ) (further-step-at t) further-step.Post
-further-step-step-requires t c κs = let x = c .before .before .read .given .1 in omega (arith, ap placeOf x, ap partsOf x)
+further-step-step-requires t c κs = let x = c .before .before .read .given .1 in (omega (arith, ap placeOf x, ap partsOf x), search room-of)
 
 further-step-same-length :
     (t : ℕ) →
@@ -448,7 +449,7 @@ item-returns-2 : (t : ℕ) → item-lts.Need-returns-2 (
 item-returns-2 t c = (search item-sequence, search needs)
 
 abbrev items-Inv-loop : items-lts.InvT-loop
-items-Inv-loop t parts₀ n level place m joining e₀ k₀ count₀ parts e k count = Joining t level n place parts₀ m e parts k count × (place ≤ e) × (e ≤ length t) × (k + count + place ≤ m + e + 1) × (1 ≤ count) × (length parts ≡ length parts₀)
+items-Inv-loop t parts₀ n level place m joining e₀ k₀ count₀ parts e k count = Joining t level n place parts₀ m e parts k count × (place ≤ e) × (e ≤ length t) × (k + count + place ≤ m + e + 1) × (1 ≤ count) × (length parts ≡ length parts₀) × (cutAt t e ≡ 0)
 
 abbrev items-μ-loop : items-lts.MeasureT-loop
 items-μ-loop t parts₀ n level place m joining e₀ k₀ count₀ parts e k count = length t - e
@@ -523,7 +524,7 @@ items-loop-holds : (t : ℕ) → items-lts.Need-loop-holds (
 ) (items-at t) items.Post items-Inv-loop items-μ-loop
 items-loop-holds t c = let place-is = ap placeOf (c .before .before .first .given .1) in
     let parts-are = ap partsOf (c .before .before .first .given .1) in
-    (search joining-starts, search needs, search needs, search needs, search needs, refl)
+    (search joining-starts, search needs, search needs, search needs, search needs, refl, search uncut-of)
 
 items-kind-from-requires : (t : ℕ) → items-lts.Need-kind-from-requires (
   joining-mark-reads.Asked,
@@ -676,7 +677,7 @@ items-loop-again : (t : ℕ) → items-lts.Need-loop-again (
 items-loop-again t c = let further : c .before .before .before .before .before .before .before .before .before .before .loop .e < c .before .before .before .before .before .before .before .after .result = search mark-begun in
     let next-is = ap placeOf (c .before .read .given .1) in
     let more-are = ap partsOf (c .before .read .given .1) in
-    (search joining-more, search needs, search needs, search needs, search needs, search needs)
+    (search joining-more, search needs, search needs, search needs, search needs, search needs, search moved-uncut)
 
 items-join-requires : (t : ℕ) → items-lts.Need-join-requires (
   joining-mark-reads.Asked,

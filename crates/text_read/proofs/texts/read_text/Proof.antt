@@ -1,5 +1,5 @@
 -- `read_text` meets its contract: one law for each return.
-use Rattle.text_read.proofs.Whole.{header-inside, text-read, no-header}
+use Rattle.text_read.proofs.Whole.{header-inside, header-uncut, text-read, no-header}
 use borrow.Author.Needs.{needs}
 use Rattle.text_read.proofs.texts.read_text.Statement.{statement}
 use Rattle.text_read.proofs.texts.read_text.Tie as tie
@@ -11,7 +11,7 @@ enum-known-header : tie.Need-enum-known-header
 enum-known-header c = search needs
 
 read-program-requires : tie.Need-read-program-requires
-read-program-requires c κs = (search needs, search header-inside)
+read-program-requires c κs = (search needs, (search header-inside, search header-uncut))
 
 enum-known-header-2 : tie.Need-enum-known-header-2
 enum-known-header-2 c = search needs

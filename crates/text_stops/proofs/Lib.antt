@@ -1,0 +1,5 @@
+pub mod Places
+pub mod Locality
+pub mod Stopping
+pub mod Stops
+pub mod Examples
