@@ -13,7 +13,7 @@ use Rattle.text_stops.specs.Places.{stopPlace}
 use Rattle.desk_texts.specs.Words.{refusalText}
 use Rattle.desk_assembly.specs.declared.Assembly.{Assembly}
 
--- by assembling's answer, 0 or the refusal's number: nothing, or why the text is refused, with the place where it stops to fit
+-- by assembling's answer, 0 or the refusal's number: nothing, or why the text is refused, with the place where it stops fitting
 unfoldable pub wordsOf : ℕ → List ℕ → List ℕ
 wordsOf n t = cond (eqb n 0) [] (refusalText n t (stopPlace t))
 

@@ -88,7 +88,7 @@ fn write_checked(whole: &[u8], size: usize, file: &mut [u8]) -> Answer
     Answer::Done
 }
 
-// Where a text stops to fit the grammar: the place of the first token with which no text goes on, the text's end where
+// Where a text stops fitting the grammar: the place of the first token with which no text goes on, the text's end where
 // that comes too early or the text fits, or the longest length where the text is longer.
 pub fn stop_place(text: &[u8]) -> usize
     ensures { λ r. ⌜ r ≡ stopPlace (now (text .entry)) ⌝ }

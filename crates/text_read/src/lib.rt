@@ -23,7 +23,7 @@ pub enum Header {
     Stops(u16),
 }
 
-// The numbers of parts, variables and clocks of the program that a text means; or where the text stops to be one.
+// The numbers of parts, variables and clocks of the program that a text means; or where the text stops being one.
 pub enum Reading {
     Program(u16, u16, u16),
     Stops(u16),

@@ -1,4 +1,4 @@
--- The place where a text stops to fit: inside the text, and what it means.
+-- The place where a text stops fitting: inside the text, and what it means.
 use Prim.Native.Nat.{ℕ, _+_, _≤_, _<_}
 use mathlib.Core.Path.{_≡_, refl, ap, sym, subst, _∙_}
 use mathlib.Core.Bool.{cond}
@@ -98,7 +98,7 @@ module _ {A : Type 0} where
   longer (x ∷ xs) ys [] vs e h = absurd (omega (arith, ap length e, length-append xs ys))
   longer (x ∷ xs) ys (u ∷ us) vs e h = longer-by-one x u xs ys us vs (cc) (longer xs ys us vs (cc) h)
 
--- A text stops to fit in one place alone: one that is said to stop later has a text that goes on there
+-- A text stops fitting in one place alone: one that is said to stop later has a text that goes on there
 not-later : (t : List ℕ) (d e : ℕ) → StopsFitting t d → StopsFitting t e → length (tokensFrom t e) < length (tokensFrom t d) → ⊥
 unfolding firstToken
 not-later t d e p q h =

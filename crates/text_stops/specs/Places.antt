@@ -1,4 +1,4 @@
--- Where a text that does not fit the grammar stops to fit: the place of the first token with which no text goes on.
+-- Where a text that does not fit the grammar stops fitting it: the place of the first token with which no text goes on.
 use Prim.Native.Nat.{ℕ, zero, suc, _+_, _-_}
 use Prim.Native.Char.{code}
 use mathlib.Core.Bool.{Bool, cond, _&&_, _||_}
@@ -33,7 +33,7 @@ unfoldable pub stopOf : List ℕ → Parsed Text → ℕ
 stopOf t (got x rest) = length t
 stopOf t (stopped rest) = placeOfLast t (length rest)
 
--- Where a text stops to fit: at the token from which on the reading has stopped, at the text's end where that comes too early or the text fits, at the
+-- Where a text stops fitting: at the token from which on the reading has stopped, at the text's end where that comes too early or the text fits, at the
 -- longest length where it is longer
 unfoldable pub stopPlace : List ℕ → ℕ
 stopPlace t = cond (leb (length t) maxTextLength) (stopOf t (parseText (tokens t))) maxTextLength

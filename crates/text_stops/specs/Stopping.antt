@@ -22,13 +22,13 @@ pub record StopsAfter (before rest : List Token) : Type 0 where
   pub begins-text : writeText text ≡ before ++ more
   pub none-goes-on : (x : Text) (us : List Token) → firstToken us ≡ firstToken rest → writeText x ≡ before ++ us → ⊥
 
--- The tokens `rest`, with which a list of tokens ends, are those from which on it stops to be a text
+-- The tokens `rest`, with which a list of tokens ends, are those from which on it stops being a text
 pub record Stopping (ts rest : List Token) : Type 0 where
   pub before : List Token
   pub all-are : ts ≡ before ++ rest
   pub stops : StopsAfter before rest
 
--- The place e of a text, at which a token begins or the text ends, is where the text stops to fit
+-- The place e of a text, at which a token begins or the text ends, is where the text stops fitting
 pub record StopsFitting (t : List ℕ) (e : ℕ) : Type 0 where
   pub inside : e ≤ length t
   pub no-blank : e < length t → isBlank (getD t e 0) ≡ false

@@ -1,1 +1,1 @@
-// Where a text that does not fit the grammar stops to fit: definitions and proofs alone, no code.
+// Where a text that does not fit the grammar stops fitting it: definitions and proofs alone, no code.
