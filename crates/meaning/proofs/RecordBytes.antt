@@ -274,3 +274,18 @@ pub allowed-marks : Holds
     ∷ [])
 unfolding allowed
 allowed-marks = refl
+
+-- and of whole records of that program, in which phase and marks come from the bytes: as it begins, with MAINTAIN's child unmarked, with no mark, and
+-- finished with marks
+abbrev held : ℕ → ℕ → List ℕ → Bool
+held phase root inside = allowed everyTable (recordBytes phase 0 (0 ∷ []) [] [] (root ∷ inside))
+
+pub allowed-records : Holds
+    (held 0 1 fresh gets true
+    ∷ held 0 1 (sets fresh 3 (1 ∷ 0 ∷ [])) gets false
+    ∷ held 1 1 (sets fresh 3 (1 ∷ 0 ∷ [])) gets true
+    ∷ held 0 0 [] gets false
+    ∷ held 2 1 fresh gets false
+    ∷ [])
+unfolding allowed
+allowed-records = refl
