@@ -138,17 +138,14 @@ static bool load_program(void)
     return memcmp(program, again, sizeof program) == 0;
 }
 
-/* Begins a run. One of a program of no parts is finished at once, and no reason for the safe state. */
-static enum state begin_run(void)
+static bool begin_run(void)
 {
     read_sensors(estimate);
     uint32_t answer =
         gurvoke_begin(table, table_len, estimate, sizeof estimate, record, sizeof record);
-    if (answer != 0) {
+    if (answer != 0)
         report_refusal("beginning", answer);
-        return SAFE;
-    }
-    return record[GURVOKE_PHASE_PLACE] == GURVOKE_PHASE_FINISHED ? FINISHED : RUNNING;
+    return answer == 0;
 }
 
 /* Whether the board may go on after a refused call, which has changed nothing. */
@@ -246,7 +243,7 @@ static enum state cycle(void)
 /* A whole run. After its end the board makes no more offers: they would be refused with 14. */
 static enum state dive(void)
 {
-    enum state state = begin_run();
+    enum state state = begin_run() ? RUNNING : SAFE;
     while (state == RUNNING) {
         state = cycle();
         sleep_until_next_cycle();

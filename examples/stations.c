@@ -1,6 +1,6 @@
 /*
  * The ten stations of document 01, its refusals, the misreadings that it names and some further
- * programs, those of document 02's requests R-1, R-2, R-4 and R-6 among them, as calls with what each
+ * programs, those of document 02's requests R-1, R-2 and R-4 among them, as calls with what each
  * must answer and every byte that it must leave. It runs on any library with this header, and needs
  * nothing else:
  *
@@ -64,12 +64,10 @@ struct step {
 #define OFFER_REFUSED(time, room, no) {OFFER, "", "", time, room, no}
 #define SETTLE_REFUSED(estimate, no) {SETTLE, estimate, "", 0, 0, no}
 
-/* The next settling starts a clock, or starts it again. The run has finished in so many cycles, which
- * may be none, or has not finished. */
+/* The next settling starts a clock, or starts it again. The run has finished in so many cycles, or
+ * in none yet (0). */
 #define STARTS(clock, start) {CLOCK, "", "", clock, start, 0}
 #define FINISHED_IN(cycles) {CYCLES, "", "", cycles, 0, 0}
-#define UNFINISHED FINISHED_IN(NEVER)
-#define NEVER 4294967295u
 
 /* Somebody changes a byte of the table or of the record, or lends the record so long. */
 #define TABLE_BYTE(place, byte) {IN_TABLE, "", "", place, byte, 0}
@@ -162,7 +160,7 @@ static const struct step steps[] = {
     OFFERED(0, "FF", "100"),
     RUNNING("00", "101"),
     OFFERED(0, "02", "101"),
-    UNFINISHED,
+    FINISHED_IN(0),
 
     STATION("station 5"), /* PAR(GOAL 0=1, GOAL 0=2) */
     COMPILED("03 01 01  05 01 01  02 00 00 00  00 00 01 00  00 00 02 00",
@@ -174,7 +172,7 @@ static const struct step steps[] = {
     NAMED(0, 0, "FE", "111"),
     RUNNING("01", "101"),
     OFFERED(0, "02", "101"),
-    UNFINISHED,
+    FINISHED_IN(0),
 
     STATION("station 6"), /* REPEAT(GOAL 0=1) */
     COMPILED("02 01 01  08 01  00 00 00 00  00 00 01 00",
@@ -183,7 +181,7 @@ static const struct step steps[] = {
     OFFERED(0, "01", "11"),
     RUNNING("01", "11"),
     OFFERED(0, "01", "11"),
-    UNFINISHED,
+    FINISHED_IN(0),
 
     STATION("station 7"), /* SEQ(START 0, START 0) */
     COMPILED("03 01 01  04 02 02  02 00 00 00  00 00 00 00  00 00 00 00",
@@ -319,7 +317,7 @@ static const struct step steps[] = {
     RUNNING("00", "101"),
     OFFERED(15, "FF", "101"),
     RUNNING("00", "101"),
-    UNFINISHED,
+    FINISHED_IN(0),
     BEGUN("00", "110"),
     OFFERED(10, "FF", "110"),
     STARTS(0, 10),
@@ -507,7 +505,7 @@ static const struct step steps[] = {
     NAMED(1, 0, "FF FE FF", "1000011"),
     RUNNING("00 02 00", "1000010"),
     OFFERED(0, "FF 01 FF", "1000010"),
-    UNFINISHED,
+    FINISHED_IN(0),
 
     STATION("a MAINTAIN that breaks starts no clock"), /* MAINTAIN(0=0, START 0) */
     COMPILED("02 01 01  06 02  01 00 00 00  00 00 00 00",
@@ -650,7 +648,7 @@ static const struct step steps[] = {
     OFFERED(63, "FF", "10111000"),
     STARTS(0, 63),
     RUNNING("01", "10110100"),
-    UNFINISHED,
+    FINISHED_IN(0),
 
     STATION("a START beside a WAIT on its clock"),
     /* SEQ(START 0, PAR(START 0, WAIT clock 0 at least 5)): in the cycle of the second START the WAIT
@@ -883,7 +881,7 @@ static const struct step steps[] = {
     RUNNING("FF", "1100"),
     OFFERED(5, "FF", "1100"),
     RUNNING("01", "1101"),
-    UNFINISHED,
+    FINISHED_IN(0),
 
     STATION("an estimate with gaps"),
     /* PAR(WAIT 0=1, WAIT 1 differs from 1, WAIT 31=1), 32 variables, all unknown at first: each
@@ -909,47 +907,6 @@ static const struct step steps[] = {
     FINISHED("FF 00" THIRTY("FF"), "0000"),
     FINISHED_IN(4),
 
-    STATION("nothing to do"), /* no parts: the run has finished when it has begun */
-    COMPILED("00 01 00", "00 01 00"),
-    BEGUN("07", ""),
-    FINISHED_IN(0),
-    OFFER_REFUSED(0, 1, 14),
-    OFFER_REFUSED(4294967295u, 0, 14), /* and 8 */
-    SETTLE_REFUSED("07", 14),
-    SETTLE_REFUSED("FB", 14), /* and 13 */
-    SETTLE_REFUSED("", 14),
-    FINISHED_IN(0),
-    NOT_ALLOWED(GURVOKE_PHASE_PLACE, 0, 2), /* no other phase */
-    NOT_ALLOWED(GURVOKE_PHASE_PLACE, 1, 2),
-    NOT_ALLOWED(GURVOKE_PHASE_PLACE, 3, 2),
-    NOT_ALLOWED(MARK(0), 1, 0), /* beyond N, V and K */
-    NOT_ALLOWED(GURVOKE_RECORD - 1, 1, 0),
-    NOT_ALLOWED(GURVOKE_ESTIMATE_PLACE + 1, 1, 0),
-    NOT_ALLOWED(GURVOKE_STARTED_PLACE, 1, 0),
-    NOT_ALLOWED(GURVOKE_ESTIMATE_PLACE, 251, 7),
-    RECORD_BYTE(GURVOKE_TIME_PLACE, 9), /* allowed */
-    OFFER_REFUSED(8, 1, 14), /* and 12 */
-    BEGUN("FF", ""), /* the next run; what stood in the record does not matter */
-    FINISHED_IN(0),
-    SETTLE_REFUSED("00", 14),
-    RECORD_LENT(GURVOKE_RECORD - 1),
-    OFFER_REFUSED(0, 1, 10),
-    SETTLE_REFUSED("00", 10),
-    /* the most variables and clocks */
-    COMPILED("00 20 10", "00 20 10"),
-    BEGIN_REFUSED(THIRTY_ONE("00"), 316, 13),
-    BEGIN_REFUSED(THIRTY_ONE("00") "FB", 316, 13),
-    BEGIN_REFUSED(THIRTY_ONE("00") "FA", 316, 8),
-    BEGUN(THIRTY_ONE("FF") "FA", ""),
-    FINISHED_IN(0),
-    RECORD_BYTE(GURVOKE_STARTED_PLACE + 15, 1), /* allowed: a start that is not after the last time */
-    OFFER_REFUSED(0, 32, 14),
-    NOT_ALLOWED(GURVOKE_START_PLACE(15), 1, 0), /* and one that is */
-    TABLE_BYTE(0, 1),
-    BEGIN_REFUSED("", 0, 9),
-    OFFER_REFUSED(0, 0, 9),
-    SETTLE_REFUSED("", 9),
-
     STATION("the longest program"), /* a SEQ of 199 GOALs, a cycle for each */
     LONGEST_PROGRAM,
     FINISHED_IN(199),
@@ -957,17 +914,12 @@ static const struct step steps[] = {
     STATION("refusals of files"), /* 1 to 7, each over all parts, then 8 */
     FILE_REFUSED("", 0, 1),
     FILE_REFUSED("00 01", 0, 1),
-    FILE_REFUSED("01 00 00", 0, 2),
-    FILE_REFUSED("00 00 00", 0, 2),
-    FILE_REFUSED("00 21 10", 0, 2),
-    FILE_REFUSED("00 20 11", 0, 2),
+    FILE_REFUSED("00 01 00", 0, 2),
     FILE_REFUSED("C9 20 10", 0, 2),
     FILE_REFUSED("C8 00 10", 0, 2),
     FILE_REFUSED("C8 21 10", 0, 2),
     FILE_REFUSED("C8 20 11", 0, 2),
     FILE_REFUSED("C8 20 10", 0, 3),
-    FILE_REFUSED("00 01 00 01", 0, 3),
-    FILE_REFUSED("00 01 00  01  00 00 01 00", 0, 3),
     FILE_REFUSED("01 01 00 01", 0, 3),
     FILE_REFUSED("01 01 00  01  00 00 01 00  00", 0, 3),
     FILE_REFUSED("01 01 00 09 00 00 00 00", 0, 4),
@@ -1007,18 +959,10 @@ static const struct step steps[] = {
     FILE_REFUSED(REPEATS_16, 0, 7),
     FILE_REFUSED(GOAL_1, 10, 8),
     FILE_REFUSED(GOAL_1, 0, 8),
-    FILE_REFUSED("00 01 00", 2, 8),
-    FILE_REFUSED("00 01 00", 0, 8),
 
     STATION("refusals of tables"), /* 9, then 8 */
     TABLE_REFUSED("", 0, 9),
     TABLE_REFUSED("01 01 00", 0, 9),
-    TABLE_REFUSED("00 01", 0, 9),
-    TABLE_REFUSED("00 00 00", 0, 9), /* V and K outside their ranges, and a byte too many */
-    TABLE_REFUSED("00 21 10", 0, 9),
-    TABLE_REFUSED("00 20 11", 0, 9),
-    TABLE_REFUSED("00 01 00 00", 0, 9),
-    TABLE_REFUSED("00 01 00", 2, 8),
     TABLE_REFUSED(GOAL_1_TABLE "00", GURVOKE_MAX_FILE, 9),
     TABLE_REFUSED(GOAL_1_TABLE, 7, 8),
     TABLE_REFUSED("01 01 01  01 01 FF FF 00 01 01 00", 0, 9), /* an operand */
@@ -1181,7 +1125,7 @@ static size_t further; /* 0, or FURTHER */
 static size_t table_len;
 static size_t record_len;
 static uint32_t cycles; /* settlings that were not refused, */
-static uint32_t finishing; /* and how many there were when the phase was first 2, or NEVER */
+static uint32_t finishing; /* and how many there were when the phase was first 2, or 0 */
 static const char *name; /* of the station */
 static int call; /* counted in each station */
 
@@ -1252,13 +1196,6 @@ static size_t lend_input(const char *text)
     return length;
 }
 
-/* The finishing cycle, by the library's own record. */
-static void note_finishing(void)
-{
-    if (finishing == NEVER && lent.record[GURVOKE_PHASE_PLACE] == GURVOKE_PHASE_FINISHED)
-        finishing = cycles;
-}
-
 /* The calls. Each first says what must stand in the buffers afterwards. */
 static bool compile(const struct step *step)
 {
@@ -1293,19 +1230,13 @@ static bool begin(const struct step *step)
     size_t room = step->value;
     if (step->answer == 0) {
         room = record_len;
+        cycles = finishing = 0;
         memset(right.record, 0, GURVOKE_RECORD);
         memcpy(right.record + GURVOKE_ESTIMATE_PLACE, right.input, estimate_len);
         read_marks(step->after, right.record + GURVOKE_MARKS_PLACE);
-        if (step->after[0] == '\0') /* no parts */
-            right.record[GURVOKE_PHASE_PLACE] = GURVOKE_PHASE_FINISHED;
     }
     uint32_t answer =
         gurvoke_begin(lent.table, table_len, lent.input, estimate_len, lent.record, room);
-    if (step->answer == 0) {
-        cycles = 0;
-        finishing = NEVER;
-        note_finishing();
-    }
     return is_answer(answer, step->answer) && are_right();
 }
 
@@ -1339,7 +1270,8 @@ static bool settle(const struct step *step)
     uint32_t answer =
         gurvoke_settle(lent.table, table_len, lent.record, record_len, lent.input, estimate_len);
     cycles += answer >= GURVOKE_ANSWERED;
-    note_finishing();
+    if (finishing == 0 && lent.record[GURVOKE_PHASE_PLACE] == GURVOKE_PHASE_FINISHED)
+        finishing = cycles;
     return is_answer(answer, step->answer) && are_right();
 }
 
@@ -1417,8 +1349,8 @@ static bool take(const struct step *step)
         return true;
     case CYCLES:
         if (finishing != step->number)
-            printf("%s: it finishes in cycle %lu and not %lu (%lu: it has not finished)\n", name,
-                   (unsigned long)finishing, (unsigned long)step->number, (unsigned long)NEVER);
+            printf("%s: it finishes in cycle %lu and not %lu\n", name, (unsigned long)finishing,
+                   (unsigned long)step->number);
         return finishing == step->number;
     case IN_TABLE:
         lent.table[step->number] = right.table[step->number] = (uint8_t)step->value;

@@ -68,18 +68,13 @@ extern "C" {
  *      estimate; a library of 2.0 refuses such a record with 10.
  * 2.2  Programs typed as text: gurvoke_text, GURVOKE_MAX_TEXT and GURVOKE_NOT_A_TEXT are new. All else
  *      is as in 2.1.
- * 2.3  A program may have no parts: its file and its table are the sizes alone, and its run is finished
- *      when it has begun. In 2.2 such a file was refused with 2, such a table with 9 and such a text
- *      with 16. Callers of 2.2 need not change, unless they count on these refusals, or on a run that
- *      has just begun waiting for an offer. The layout of files, tables and records is that of 2.2.
  */
 #define GURVOKE_VERSION_MAJOR 2
-#define GURVOKE_VERSION_MINOR 3
+#define GURVOKE_VERSION_MINOR 2
 
 /*
  * The most parts, variables and clocks of a program, the depth of its deepest part (the root has
- * depth 1), and the largest value of a variable. A program has at least one variable; it may have no
- * clock, and no part.
+ * depth 1), and the largest value of a variable.
  */
 #define GURVOKE_MAX_PARTS 200
 #define GURVOKE_MAX_VARIABLES 32
@@ -133,8 +128,7 @@ extern "C" {
 
 /*
  * The lengths of the file and of the table of a program with so many parts, and where the row of a
- * part begins in a table. The number of parts is the first byte of a file and of a table. Without
- * parts both lengths are GURVOKE_HEADER.
+ * part begins in a table. The number of parts is the first byte of a file and of a table.
  */
 #define GURVOKE_FILE_LENGTH(parts) \
     (GURVOKE_HEADER + (GURVOKE_KIND + GURVOKE_OPERAND) * (size_t)(parts))
@@ -164,11 +158,7 @@ extern "C" {
 #define GURVOKE_MARKED 1
 #define GURVOKE_STARTED 1
 
-/*
- * The phases: the run waits for an offer, goals are offered and it waits for a settling, finished. A
- * run of a program of no parts is finished from its beginning; with such a table a record in another
- * phase is not allowed.
- */
+/* The phases: the run waits for an offer, goals are offered and it waits for a settling, finished. */
 #define GURVOKE_PHASE_WAITING 0
 #define GURVOKE_PHASE_OFFERED 1
 #define GURVOKE_PHASE_FINISHED 2
@@ -204,11 +194,11 @@ extern "C" {
 
 /* The refusals. */
 #define GURVOKE_FILE_TOO_SHORT 1 /* file under GURVOKE_HEADER bytes */
-#define GURVOKE_SIZE_OUT_OF_RANGE 2 /* no variable, or more than the most of something */
+#define GURVOKE_SIZE_OUT_OF_RANGE 2 /* no part, no variable, or more than the most of something */
 #define GURVOKE_WRONG_LENGTH 3 /* length of the file not GURVOKE_FILE_LENGTH(parts) */
 #define GURVOKE_UNKNOWN_KIND 4 /* a kind that is none of those above */
 #define GURVOKE_OPERAND_NOT_ALLOWED 5 /* an operand that its kind does not allow */
-#define GURVOKE_NOT_ONE_TREE 6 /* there are parts, and the arrays do not form exactly one tree */
+#define GURVOKE_NOT_ONE_TREE 6 /* the arrays do not form exactly one tree */
 #define GURVOKE_TOO_DEEP 7 /* depth above GURVOKE_MAX_DEPTH */
 #define GURVOKE_BUFFER_TOO_SHORT 8 /* output buffer too short */
 #define GURVOKE_NOT_A_TABLE 9 /* bytes not the table of any file */
@@ -254,9 +244,8 @@ extern "C" {
  * Assembles a program typed as text (docs/TEXT.md): writes its program file,
  * GURVOKE_FILE_LENGTH(parts) bytes, to the start of `file`. Further bytes of `file` stay as they are.
  * The number of parts is then the first byte of `file`; a buffer of GURVOKE_MAX_FILE bytes is long
- * enough for any text. A text with nothing but spaces and line ends after its colon gives the file of
- * no parts. The text has no byte that ends it: its length counts. Answers 0 or a refusal: 16 first,
- * whatever else is wrong, then 2, 5, 7 and 8, as for files.
+ * enough for any text. The text has no byte that ends it: its length counts. Answers 0 or a refusal:
+ * 16 first, whatever else is wrong, then 2, 5, 7 and 8, as for files.
  *
  * This call is for the desk, not for a small board: it calls itself for what stands inside brackets
  * and after words, so that the stack that it takes depends on the text, a refused one too. On x86-64
@@ -287,10 +276,6 @@ uint32_t gurvoke_decompile(const uint8_t *table, size_t table_len, uint8_t *file
  * it held before. The estimate has one byte for each variable: a value up to GURVOKE_MAX_VALUE, or
  * GURVOKE_UNKNOWN_VALUE where its sensor has nothing to say. Further bytes of `record` stay as they
  * are. Answers 0 or a refusal: 9, 13, 8.
- *
- * The record is in phase GURVOKE_PHASE_WAITING, or GURVOKE_PHASE_FINISHED where the program has no
- * parts: then every offer and every settling is refused with 14. So a main loop looks at the phase
- * before its first offer, as that of examples/board.c does.
  */
 uint32_t gurvoke_begin(const uint8_t *table, size_t table_len, const uint8_t *estimate,
                        size_t estimate_len, uint8_t *record, size_t record_len);

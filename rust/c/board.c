@@ -2,8 +2,8 @@
  * A plain executive over the location table: the five functions of include/gurvoke.h under another
  * prefix, with the same answers and buffers.
  *
- * It is written from document 01 and from document 02's R-1, R-2, R-4 and R-6, with nothing proved, as
- * one would write it for a board. The tests of the library run on it too, and bin/performance compares the
+ * It is written from document 01 and from document 02's R-1, R-2 and R-4, with nothing proved, as one
+ * would write it for a board. The tests of the library run on it too, and bin/performance compares the
  * library's cost with its cost. It is one file, so that the compiler has all of it at hand, as it has
  * all of the library.
  */
@@ -80,7 +80,7 @@ enum {
 
 static bool sizes_allowed(const uint8_t *sizes)
 {
-    return sizes[PARTS] <= MAX_PARTS && sizes[VARIABLES] >= 1 &&
+    return sizes[PARTS] >= 1 && sizes[PARTS] <= MAX_PARTS && sizes[VARIABLES] >= 1 &&
            sizes[VARIABLES] <= MAX_VARIABLES && sizes[CLOCKS] <= MAX_CLOCKS;
 }
 
@@ -183,7 +183,7 @@ static uint32_t check_file(const uint8_t *file, size_t len)
 
 /* Finds where each part ends, if the parts form one tree, and how many levels it has, itself the
  * first. A part ends where its last child does; from the last part to the first, the children of
- * each are known. There is a part. */
+ * each are known. */
 static bool find_ends(const uint8_t *file, uint8_t *ends, uint8_t *levels)
 {
     unsigned parts = file[PARTS];
@@ -213,10 +213,8 @@ static void write_table(const uint8_t *file, const uint8_t *ends, uint8_t *table
     const uint8_t *operands = kinds + parts;
     uint8_t *rows = table + SIZES_LEN;
     memcpy(table, file, SIZES_LEN);
-    if (parts > 0) {
-        rows[PARENT] = NO_PART;
-        rows[NEXT] = NO_PART;
-    }
+    rows[PARENT] = NO_PART;
+    rows[NEXT] = NO_PART;
     for (unsigned part = 0; part < parts; part++) {
         uint8_t *row = rows + ROW_LEN * part;
         uint8_t kind = kinds[part];
@@ -239,11 +237,11 @@ uint32_t board_compile(const uint8_t *file, size_t file_len, uint8_t *table, siz
     uint32_t refusal = check_file(file, file_len);
     if (refusal != DONE)
         return refusal;
-    unsigned parts = file[PARTS];
-    if (parts > 0 && !find_ends(file, ends, levels))
+    if (!find_ends(file, ends, levels))
         return NOT_ONE_TREE;
-    if (parts > 0 && levels[0] > MAX_DEPTH)
+    if (levels[0] > MAX_DEPTH)
         return TOO_DEEP;
+    unsigned parts = file[PARTS];
     if (table_len < SIZES_LEN + ROW_LEN * parts)
         return BUFFER_TOO_SHORT;
     write_table(file, ends, table);
@@ -285,8 +283,6 @@ static bool is_table(const uint8_t *table, size_t len)
     unsigned parts = table[PARTS];
     if (len != SIZES_LEN + ROW_LEN * parts)
         return false;
-    if (parts == 0)
-        return true;
     const uint8_t *root = row_of(table, 0);
     if (root[END] != parts || root[PARENT] != NO_PART || root[NEXT] != NO_PART)
         return false;
@@ -393,7 +389,7 @@ static bool count_allowed(unsigned kind, unsigned count, unsigned phase)
 }
 
 /* Whether a run that goes on may have these marks. From the last part to the first, the marked
- * children of a part have been counted when it is looked at. Without parts no run goes on. */
+ * children of a part have been counted when it is looked at. */
 static bool marks_allowed(const uint8_t *table, const uint8_t *marks, unsigned phase)
 {
     uint8_t counts[MAX_PARTS] = {0};
@@ -409,7 +405,7 @@ static bool marks_allowed(const uint8_t *table, const uint8_t *marks, unsigned p
             counts[row[PARENT]]++;
         }
     }
-    return table[PARTS] > 0 && marks[0] == 1;
+    return marks[0] == 1;
 }
 
 static bool record_allowed(const uint8_t *table, const uint8_t *record, size_t len)
@@ -467,10 +463,7 @@ uint32_t board_begin(const uint8_t *table, size_t table_len, const uint8_t *esti
         return BUFFER_TOO_SHORT;
     memset(record, 0, RECORD_LEN);
     memcpy(record + ESTIMATE, estimate, estimate_len);
-    if (table[PARTS] == 0)
-        record[PHASE] = PHASE_FINISHED;
-    else
-        initialise(table, 0, record + MARKS);
+    initialise(table, 0, record + MARKS);
     return DONE;
 }
 

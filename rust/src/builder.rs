@@ -65,16 +65,6 @@ pub fn below(clock: u8, value: u16) -> Condition {
     condition(Test::Below, clock, value)
 }
 
-/// The program file of these sizes with no parts: "the three sizes alone".
-pub fn empty_file(variables: usize, clocks: usize) -> Vec<u8> {
-    let sizes = Sizes {
-        parts: 0,
-        variables,
-        clocks,
-    };
-    sizes.bytes()
-}
-
 /// The program file of these sizes with this root.
 pub fn file(variables: usize, clocks: usize, root: &Part) -> Vec<u8> {
     let mut labels = Vec::new();

@@ -51,18 +51,16 @@ pub enum Shape {
     Mixed,
 }
 
-/// A valid program, unless `parts` or `depth` is above the limits. It has exactly `parts` parts, which
-/// may be none, and no more than `depth` levels; a deep one with at least twice as many parts as levels
-/// has exactly `depth`. A program of one level has one part.
+/// A valid program, unless `parts` or `depth` is above the limits. It has exactly `parts` parts,
+/// and no more than `depth` levels; a deep one with at least twice as many parts as levels has
+/// exactly `depth`. A program of one level has one part.
 pub fn program(rng: &mut Rng, parts: usize, depth: usize, shape: Shape) -> Draft {
     let mut draft = Draft {
         variables: random_variables(rng),
         clocks: random_clocks(rng),
         parts: Vec::new(),
     };
-    if parts > 0 {
-        push_part(rng, &mut draft, parts, depth, shape);
-    }
+    push_part(rng, &mut draft, parts, depth, shape);
     draft
 }
 
@@ -71,8 +69,7 @@ pub fn any_program(rng: &mut Rng) -> Draft {
     let parts = match rng.below(20) {
         0 => 1,
         1 => rng.between(MAX_PARTS - 1, MAX_PARTS),
-        2 | 3 => 0,
-        4..=13 => rng.between(1, 12),
+        2..=13 => rng.between(1, 12),
         _ => rng.between(1, MAX_PARTS),
     };
     let depth = match rng.below(2) {

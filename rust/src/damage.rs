@@ -22,9 +22,6 @@ pub fn damaged_file(rng: &mut Rng, draft: &Draft) -> Vec<u8> {
 /// Puts a fault into the draft of a program.
 fn damage_draft(rng: &mut Rng, draft: &mut Draft) {
     let count = draft.parts.len();
-    if count == 0 {
-        return damage_empty_draft(rng, draft);
-    }
     let place = rng.below(count);
     match rng.below(9) {
         0 => draft.parts[place].kind = unknown_kind(rng),
@@ -35,23 +32,10 @@ fn damage_draft(rng: &mut Rng, draft: &mut Draft) {
             let part = draft.parts[place];
             draft.parts.push(part);
         }
-        5 => drop(draft.parts.remove(place)),
+        5 if count > 1 => drop(draft.parts.remove(place)),
         6 => draft.parts.swap(place, count - 1),
         7 => damage_size(rng, draft),
         _ => wrap_in_repeats(rng, draft),
-    }
-}
-
-/// Puts a fault into the draft of a program of no parts: parts that may be no program, or a size.
-fn damage_empty_draft(rng: &mut Rng, draft: &mut Draft) {
-    match rng.below(3) {
-        0 => {
-            let kind = rng.pick(&Kind::ALL);
-            let operand = operand(rng, draft, kind, 1);
-            draft.push(kind, operand);
-        }
-        1 => wrap_in_repeats(rng, draft),
-        _ => damage_size(rng, draft),
     }
 }
 
@@ -103,7 +87,7 @@ fn damage_bytes(rng: &mut Rng, bytes: &mut Vec<u8>) {
             let size = rng.below(SIZES_LEN);
             step(rng, &mut bytes[size]);
         }
-        3 => bytes.truncate(len.saturating_sub(rng.between(1, 8))),
+        3 => bytes.truncate(len - rng.between(1, 8)),
         4 => bytes.truncate(rng.below(len)),
         5 => bytes.truncate(rng.below(SIZES_LEN + 1)),
         _ => {
@@ -139,7 +123,7 @@ pub fn random_file(rng: &mut Rng) -> Vec<u8> {
         clocks: random_clocks(rng),
         parts: Vec::new(),
     };
-    for _ in 0..rng.between(0, 6) {
+    for _ in 0..rng.between(1, 6) {
         let kind = rng.pick(&Kind::ALL);
         let children = rng.between(1, 3);
         let operand = operand(rng, &draft, kind, children);
@@ -171,9 +155,6 @@ pub fn damaged_table(rng: &mut Rng, program: &Program) -> Vec<u8> {
 /// Puts a fault into the rows of a table.
 fn damage_rows(rng: &mut Rng, rows: &mut Vec<Row>) {
     let count = rows.len();
-    if count == 0 {
-        return rows.push(random_row(rng, 1));
-    }
     let place = rng.below(count);
     let other = rng.below(count);
     match rng.below(10) {
@@ -185,7 +166,7 @@ fn damage_rows(rng: &mut Rng, rows: &mut Vec<Row>) {
         5 => damage_byte(rng, &mut rows[place].operand),
         6 => rows[place].kind = rng.pick(&Kind::ALL) as u8,
         7 => rows.swap(place, other),
-        8 => drop(rows.remove(place)),
+        8 if count > 1 => drop(rows.remove(place)),
         _ => wrap_rows(rows),
     }
 }
@@ -198,7 +179,7 @@ fn one_off(rng: &mut Rng, number: usize) -> usize {
 }
 
 /// Puts a REPEAT above the rows of a program: they become those of the program one level deeper,
-/// which may be too deep or have too many parts. Above no rows it lacks its child.
+/// which may be too deep or have too many parts.
 pub fn wrap_rows(rows: &mut Vec<Row>) {
     for row in rows.iter_mut() {
         row.end += 1;
@@ -213,9 +194,7 @@ pub fn wrap_rows(rows: &mut Vec<Row>) {
             row.next + 1
         };
     }
-    if let Some(root) = rows.first_mut() {
-        root.next = 1;
-    }
+    rows[0].next = 1;
     let repeat = Row {
         kind: REPEAT,
         end: rows.len() + 1,
@@ -233,7 +212,7 @@ pub fn random_table(rng: &mut Rng) -> Vec<u8> {
         return random_bytes(rng);
     }
     let sizes = Sizes {
-        parts: rng.between(0, 3),
+        parts: rng.between(1, 3),
         variables: 1,
         clocks: 1,
     };

@@ -1,5 +1,4 @@
-//! The examples of document 01's table "Refusal by refusal". That of 2 is the one that document 02's R-6
-//! puts in its place.
+//! The examples of document 01's table "Refusal by refusal".
 
 use crate::refusals::{
     BUFFER_TOO_SHORT, ESTIMATE_NOT_ALLOWED, FILE_TOO_SHORT, NOT_A_TABLE, NOT_ONE_TREE,
@@ -37,7 +36,7 @@ pub fn all() -> Vec<(u32, Example)> {
     let table_len = 10;
     vec![
         (FILE_TOO_SHORT, File(vec![])),
-        (SIZE_OUT_OF_RANGE, File(vec![0x01, 0x00, 0x00])),
+        (SIZE_OUT_OF_RANGE, File(vec![0x00, 0x01, 0x00])),
         (WRONG_LENGTH, File(vec![0x01, 0x01, 0x00, 0x01])),
         (UNKNOWN_KIND, File(vec![1, 1, 0, 9, 0, 0, 0, 0])),
         (OPERAND_NOT_ALLOWED, File(vec![1, 1, 0, 1, 0, 1, 0, 0])),

@@ -1,6 +1,6 @@
 //! A plain model of reading a program file and of giving it back from its location table.
 //!
-//! It is written from document 01 and document 02's R-6 alone and shares nothing with the library.
+//! It is written from document 01 alone and shares nothing with the library.
 
 use crate::parts::{Condition, Kind, Label, Part, Test};
 use crate::refusals::{
@@ -16,8 +16,7 @@ use crate::sizes::{
 #[derive(Clone, Debug, PartialEq, Eq)]
 pub struct Program {
     pub sizes: Sizes,
-    /// None where the program has no parts.
-    pub root: Option<Part>,
+    pub root: Part,
 }
 
 /// One row of a location table.
@@ -47,15 +46,8 @@ impl Program {
     /// The rows of the program's location table.
     pub fn rows(&self) -> Vec<Row> {
         let mut rows = Vec::with_capacity(self.sizes.parts);
-        if let Some(root) = &self.root {
-            push_rows(root, NO_PART, &mut rows);
-        }
+        push_rows(&self.root, NO_PART, &mut rows);
         rows
-    }
-
-    /// How many parts stand one inside the other at the deepest place: none where there is no part.
-    pub fn depth(&self) -> usize {
-        self.root.as_ref().map_or(0, Part::depth)
     }
 
     /// The program's location table.
@@ -77,11 +69,10 @@ pub fn read(file: &[u8]) -> Result<Program, u32> {
     let kinds = read_kinds(kinds).ok_or(UNKNOWN_KIND)?;
     let labels = read_labels(&kinds, operands, &sizes).ok_or(OPERAND_NOT_ALLOWED)?;
     let root = read_tree(&labels).ok_or(NOT_ONE_TREE)?;
-    let program = Program { sizes, root };
-    if program.depth() > MAX_DEPTH {
+    if root.depth() > MAX_DEPTH {
         return Err(TOO_DEEP);
     }
-    Ok(program)
+    Ok(Program { sizes, root })
 }
 
 /// Reads a program file and writes its location table to the front of `table`.
@@ -177,14 +168,11 @@ fn read_count(operand: &[u8]) -> Option<usize> {
     (count > 0 && all_zero(others)).then_some(count)
 }
 
-/// The tree that the parts form in preorder, if they form exactly one; no tree where there is no part.
-fn read_tree(labels: &[Label]) -> Option<Option<Part>> {
-    if labels.is_empty() {
-        return Some(None);
-    }
+/// The tree that the parts form in preorder, if they form exactly one.
+fn read_tree(labels: &[Label]) -> Option<Part> {
     let mut rest = labels.iter();
     let root = read_part(&mut rest)?;
-    rest.next().is_none().then_some(Some(root))
+    rest.next().is_none().then_some(root)
 }
 
 /// Takes one part with all its descendants. The calls nest no deeper than there are parts, and a
@@ -291,32 +279,13 @@ mod tests {
     #[test]
     fn accepts_depth_16() {
         let program = read(&repeats_above_goal(15)).expect("15 REPEATs above a GOAL");
-        assert_eq!(program.depth(), MAX_DEPTH);
+        assert_eq!(program.root.depth(), MAX_DEPTH);
     }
 
     #[test]
     fn lists_station_10() {
         assert_eq!(listing(&STATION_10), STATION_10_LISTING);
         assert_eq!(listing(&[]), format!("{FILE_TOO_SHORT}\n"));
-    }
-
-    /// "File and table are the three sizes alone", and the listing is their line.
-    #[test]
-    fn reads_a_program_of_no_parts() {
-        for sizes in [[0, 1, 0], [0, 32, 16]] {
-            let program = read(&sizes).expect("no parts are allowed");
-            assert_eq!((program.depth(), &program.root), (0, &None));
-            assert_eq!(program.rows(), []);
-            assert_eq!(program.table(), sizes);
-            let mut file = [0xEE; 4];
-            assert_eq!(decompile(&sizes, &mut file), Ok(()));
-            assert_eq!(file, [sizes[0], sizes[1], sizes[2], 0xEE]);
-        }
-        assert_eq!(listing(&[0, 1, 0]), "0 1 0\n");
-        assert_eq!(listing(&[0, 32, 16]), "0 32 16\n");
-        assert_eq!(read(&[0, 1, 0, 1]), Err(WRONG_LENGTH));
-        assert_eq!(read(&[0, 0, 0]), Err(SIZE_OUT_OF_RANGE));
-        assert_eq!(read(&[1, 1, 0]), Err(WRONG_LENGTH));
     }
 
     #[test]

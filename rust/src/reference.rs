@@ -1,7 +1,7 @@
 //! A plain executive over the location table, with the answers and buffers of the C interface.
 //!
 //! It is written from document 01's "Location table", "Run record" and "One cycle over the table" and
-//! from document 02's, in the order of their sentences and with nothing proved:
+//! from document 02's, in the order of their sentences and with nothing proved:
 //! slices, loops and local arrays, as one would write it for a board. The tests of the library run on
 //! it too, and `bin/performance` compares the library's cost with its cost.
 
@@ -45,11 +45,7 @@ pub fn begin(table: &[u8], estimate: &[u8], record: &mut [u8]) -> u32 {
     };
     record.fill(0);
     record[ESTIMATE..ESTIMATE + estimate.len()].copy_from_slice(estimate);
-    if table.sizes.parts == 0 {
-        record[PHASE] = FINISHED;
-    } else {
-        table.initialise(0, &mut record[MARKS..]);
-    }
+    table.initialise(0, &mut record[MARKS..]);
     DONE
 }
 
@@ -290,8 +286,7 @@ impl Table<'_> {
                 counts[parent] += 1;
             }
         }
-        // A program of no parts has no root that a run could go on with.
-        marks.first() == Some(&1)
+        marks[0] == 1
     }
 }
 

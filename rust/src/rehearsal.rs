@@ -189,7 +189,7 @@ impl<'a> LatestRun<'a> {
     }
 
     /// The record as the calls have left it. Before a beginning it holds nothing but 0, which is not
-    /// allowed, since the root is not marked; where there is no root, since the phase is not 2.
+    /// allowed, since the root is not marked.
     fn record(&self) -> Vec<u8> {
         match &self.run {
             Some(run) => run.record(),

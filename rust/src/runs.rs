@@ -52,9 +52,7 @@ pub struct Caller {
 impl Caller {
     pub fn new(rng: &mut Rng, program: &Program) -> Caller {
         let mut limits = Vec::new();
-        if let Some(root) = &program.root {
-            push_limits(root, &mut limits);
-        }
+        push_limits(&program.root, &mut limits);
         Caller {
             limits,
             zeal: rng.between(1, 9),
@@ -210,8 +208,8 @@ fn clock_limit(condition: &Condition) -> Option<(usize, u32)> {
 
 /// Calls `visit` with each part that is going on: its depth, the part, and what remains of it.
 fn visit_going_on<'a>(run: &Run<'a>, mut visit: impl FnMut(usize, &'a Tree, &Rest)) {
-    if let (Some(root), Some(rest)) = (&run.program.root, &run.rest) {
-        visit_inside(1, root, rest, &mut visit);
+    if let Some(rest) = &run.rest {
+        visit_inside(1, &run.program.root, rest, &mut visit);
     }
 }
 

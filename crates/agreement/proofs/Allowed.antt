@@ -14,7 +14,7 @@ use borrow.Author.Tests.{eq-eqb, ne_eqb, le-leb}
 use Rattle.base.specs.Lists.{all, any, sum, flag}
 use Rattle.base.proofs.Lists.{all_append}
 use Rattle.meaning.specs.Kinds.{Kind, MAINTAIN}
-use Rattle.meaning.specs.Tree.{Part, Parts, goal, start, wait, seq, par, maintain, choice, repeat, one, more, list_of, kind, children, size, rooted}
+use Rattle.meaning.specs.Tree.{Part, Parts, goal, start, wait, seq, par, maintain, choice, repeat, one, more, list_of, kind, children, size}
 use Rattle.meaning.specs.Program.{Within}
 use Rattle.meaning.specs.Table.{inside_of, table_of}
 use Rattle.meaning.specs.Conditions.{Situation}
@@ -166,16 +166,16 @@ root_marked phase p r e = rw (e, marks_front p r)
 pub settle_holds : (sit : Situation) (p : Part) (r r' : Rest p) → settle sit p r ≡ some r' → Holding p r'
 settle_holds sit p r r' e = rw e at (settle_holding sit p r)
 
-module _ (v k : ℕ) (p : Part) (w : Within v k (rooted p)) where
-  root_parts : (phase : ℕ) (r : Rest p) → Fit phase (Holding p r) → parts_allowed (table_of v k (rooted p)) phase 0 (marks_of p r) ≡ true
-  root_parts phase r f = allows_whole (allowed_lies (table_of v k (rooted p)) phase p (root_lies v k p w) r f)
+module _ (v k : ℕ) (p : Part) (w : Within v k p) where
+  root_parts : (phase : ℕ) (r : Rest p) → Fit phase (Holding p r) → parts_allowed (table_of v k p) phase 0 (marks_of p r) ≡ true
+  root_parts phase r f = allows_whole (allowed_lies (table_of v k p) phase p (root_lies v k p w) r f)
 
   -- a record may hold the marks of what remains of the root, until it ends
-  pub root_allowed_lem : (phase : ℕ) (r : Rest p) → ((phase ≡ waiting) × Holding p r) ⊎ (phase ≡ offered) → (root_allowed phase (marks_of p r) ≡ true) × (parts_allowed (table_of v k (rooted p)) phase 0 (marks_of p r) ≡ true)
+  pub root_allowed_lem : (phase : ℕ) (r : Rest p) → ((phase ≡ waiting) × Holding p r) ⊎ (phase ≡ offered) → (root_allowed phase (marks_of p r) ≡ true) × (parts_allowed (table_of v k p) phase 0 (marks_of p r) ≡ true)
   root_allowed_lem phase r (inl h) = (root_marked phase p r (rw h.0), root_parts phase r (inr h.1))
   root_allowed_lem phase r (inr e) = (root_marked phase p r (rw e), root_parts phase r (inl e))
 
   -- and none once it has ended
-  pub ended_allowed : (root_allowed finished (blank (size p)) ≡ true) × (parts_allowed (table_of v k (rooted p)) finished 0 (blank (size p)) ≡ true)
+  pub ended_allowed : (root_allowed finished (blank (size p)) ≡ true) × (parts_allowed (table_of v k p) finished 0 (blank (size p)) ≡ true)
   unfolding root_allowed
-  ended_allowed = (rw (any_blank (size p)), allows_whole (blank_lies (table_of v k (rooted p)) finished (root_lies v k p w)))
+  ended_allowed = (rw (any_blank (size p)), allows_whole (blank_lies (table_of v k p) finished (root_lies v k p w)))

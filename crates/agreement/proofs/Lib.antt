@@ -8,7 +8,6 @@ pub mod Passes
 pub mod Settles
 pub mod Works
 pub mod Allowed
-pub mod Programs
 pub mod Agreement
 pub mod Finishing
 pub mod Operations

@@ -13,7 +13,7 @@ use Rattle.base.specs.Lists.{all, flag, bytes_at}
 use Rattle.base.proofs.Stores.{bytes_sets}
 use Rattle.meaning.specs.declared.Form.TheVariants.{File, Table}
 use Rattle.meaning.specs.Sizes.{length_of}
-use Rattle.meaning.specs.Tree.{Program}
+use Rattle.meaning.specs.Tree.{Part}
 use Rattle.meaning.specs.Program.{parts, variables, clocks, program_refusal}
 use Rattle.meaning.specs.Table.{table_of, compiled, compile_refusal, compiled_into}
 use Rattle.meaning.specs.Record.{phase_of, last_time, estimate_in, started_in, starts_in, waiting, finished}
@@ -99,8 +99,8 @@ module _ (t : List ℕ) (v : ℕ) (same : variables t ≡ v) where
       ∙ ap₂ (λ (q : List ℕ) (x : Reply). table_finishing t q (n + settling_count x) (map call_of ms)) (leaves t r m h.0) (made_reply_same r m h.0))
 
   -- what is so for the table's run is so for the calls that came back as promised
-  calls_alike : (r : List ℕ) (x : Program) (st : State x) (ms : List Made) → AllPromised t r ms → Alike t r x v st (map call_of ms) → CallsAlike t r x v st ms
-  calls_alike r x st ms h alike =
+  calls_alike : (r : List ℕ) (p : Part) (st : State p) (ms : List Made) → AllPromised t r ms → Alike t r p v st (map call_of ms) → CallsAlike t r p v st ms
+  calls_alike r p st ms h alike =
       let after = record_is ms r h in
       record {
         replies = replies_are ms r h ∙ alike.replies;
@@ -115,19 +115,19 @@ module _ (t : List ℕ) (v : ℕ) (same : variables t ≡ v) where
 
 module _ (f : List ℕ) where
   module _ (a : program_refusal File f ≡ 0) where
-    abbrev program : Program
-    program = (accepted File f a).0
+    abbrev tree : Part
+    tree = (accepted File f a).0
 
-    compiled_program : compiled File f ≡ table_of (variables f) (clocks f) program
-    compiled_program = compiled_is File f program (accepted File f a).1
+    compiled_tree : compiled File f ≡ table_of (variables f) (clocks f) tree
+    compiled_tree = compiled_is File f tree (accepted File f a).1
 
     compiled_variables : variables (compiled File f) ≡ variables f
-    compiled_variables = rw compiled_program (table_accepted (variables f) (clocks f) program (accepted File f a).2.within).2
+    compiled_variables = rw compiled_tree (table_accepted (variables f) (clocks f) tree (accepted File f a).2.within).2
 
     pub compiled_length : length (compiled File f) ≡ length_of Table (parts f)
     compiled_length =
-        let held = table_holds (variables f) (clocks f) program (accepted File f a).2.within in
-        rw compiled_program (held.length_is ∙ ap (length_of Table) (held.parts_are ∙ sym (accepted File f a).2.parts_are))
+        let held = table_holds (variables f) (clocks f) tree (accepted File f a).2.within in
+        rw compiled_tree (held.length_is ∙ ap (length_of Table) (held.parts_are ∙ sym (accepted File f a).2.parts_are))
 
   -- the buffer that compiling leaves begins with the file's table
   pub read_table : (out : List ℕ) → compile_refusal f (length out) ≡ 0 → table_in f (compiled_into f out) ≡ compiled File f
@@ -138,27 +138,27 @@ module _ (f : List ℕ) where
 
   -- A beginning on the file's table, and the calls after it
   module _ (a : program_refusal File f ≡ 0) (est r : List ℕ) where
-    -- `runs_alike` speaks of this one program for each list of calls
+    -- `runs_alike` speaks of this one tree for each list of calls
     program_alike : (cs : List Call) → Timed cs → begin_refusal (compiled File f) est (length r) ≡ 0
-        → Alike (compiled File f) (begun_into (compiled File f) est r) (program a) (variables f) (begin (program a) (clocks f) est) cs
+        → Alike (compiled File f) (begun_into (compiled File f) est r) (tree a) (variables f) (begin (tree a) (clocks f) est) cs
     program_alike cs h z =
         let d = runs_alike f est r cs a h in
-        subst (λ (x : Program). Alike (compiled File f) (begun_into (compiled File f) est r) x (variables f) (begin x (clocks f) est) cs)
-        (some-injective d.program (program a) (sym d.program_is ∙ (accepted File f a).1))
+        subst (λ (p : Part). Alike (compiled File f) (begun_into (compiled File f) est r) p (variables f) (begin p (clocks f) est) cs)
+        (some-injective d.program (tree a) (sym d.tree_is ∙ (accepted File f a).1))
         (d.begun z)
 
     begun_alike : (answer : ℕ) (r' : List ℕ) → Begun (compiled File f) est r answer r' → OperationsAlike f (compiled File f) est r answer r'
     begun_alike answer r' b =
         let d = runs_alike f est r [] a tt in
         record {
-          program = program a;
-          program_is = (accepted File f a).1;
+          program = tree a;
+          tree_is = (accepted File f a).1;
           beginning = b.answer_is ∙ d.beginning;
           unbegun = λ n. b.record_is ∙ d.unbegun (λ z. n (b.answer_is ∙ z));
           begun =
               λ z ms h timed.
-              calls_alike (compiled File f) (variables f) (compiled_variables a) r' (program a) (begin (program a) (clocks f) est) ms h
-              (subst (λ (q : List ℕ). Alike (compiled File f) q (program a) (variables f) (begin (program a) (clocks f) est) (map call_of ms)) (sym b.record_is) (program_alike (map call_of ms) timed (sym b.answer_is ∙ z)));
+              calls_alike (compiled File f) (variables f) (compiled_variables a) r' (tree a) (begin (tree a) (clocks f) est) ms h
+              (subst (λ (q : List ℕ). Alike (compiled File f) q (tree a) (variables f) (begin (tree a) (clocks f) est) (map call_of ms)) (sym b.record_is) (program_alike (map call_of ms) timed (sym b.answer_is ∙ z)));
         }
 
 -- whatever compiling, a beginning on the table that it wrote, and calls after that answer and leave within their contracts

@@ -5,8 +5,8 @@ use Rattle.std.proofs.Math.Option.{Option, none, some}
 use Rattle.base.specs.Lists.{all, first_failing, bytes_at}
 use Rattle.meaning.specs.declared.Form.TheVariants.{File, Table}
 use Rattle.meaning.specs.Sizes.{length_of}
-use Rattle.meaning.specs.Tree.{Program}
-use Rattle.meaning.specs.Program.{parts, variables, clocks, program_of}
+use Rattle.meaning.specs.Tree.{Part}
+use Rattle.meaning.specs.Program.{parts, variables, clocks, tree_of}
 use Rattle.meaning.specs.Record.{phase_of, last_time, estimate_in, started_in, starts_in, record_length, finished}
 use Rattle.meaning.specs.Answers.{answered, bufferTooShort, estimateNotAllowed}
 use Rattle.meaning.specs.Operations.{Offered, Settled}
@@ -57,21 +57,21 @@ finishing_cycle v r n [] = cond (eqb (phase_of r) finished) (some n) none
 finishing_cycle v r n (m ∷ ms) = cond (eqb (phase_of r) finished) (some n) (finishing_cycle v (record_from m) (n + settling_count (reply_of v m)) ms)
 
 -- The calls made and the unfolding are alike, from a record and a state on: all that `Alike` says, about what came back
-pub record CallsAlike (t r : List ℕ) (x : Program) (v : ℕ) (st : State x) (ms : List Made) : Type 0 where
-  pub replies : map (reply_of v) ms ≡ tree_replies x v st (map call_of ms)
+pub record CallsAlike (t r : List ℕ) (p : Part) (v : ℕ) (st : State p) (ms : List Made) : Type 0 where
+  pub replies : map (reply_of v) ms ≡ tree_replies p v st (map call_of ms)
   pub never : all possible (map (reply_of v) ms) ≡ true
-  pub phases : phase_of (record_after r ms) ≡ (tree_after x v st (map call_of ms)).phase
-  pub times : last_time (record_after r ms) ≡ (tree_after x v st (map call_of ms)).time
-  pub estimates : estimate_in t (record_after r ms) ≡ (tree_after x v st (map call_of ms)).estimate
-  pub flags : started_in t (record_after r ms) ≡ (tree_after x v st (map call_of ms)).started
-  pub clock_starts : starts_in t (record_after r ms) ≡ (tree_after x v st (map call_of ms)).starts
-  pub finishing : finishing_cycle v r 0 ms ≡ tree_finishing x v st 0 (map call_of ms)
+  pub phases : phase_of (record_after r ms) ≡ (tree_after p v st (map call_of ms)).phase
+  pub times : last_time (record_after r ms) ≡ (tree_after p v st (map call_of ms)).time
+  pub estimates : estimate_in t (record_after r ms) ≡ (tree_after p v st (map call_of ms)).estimate
+  pub flags : started_in t (record_after r ms) ≡ (tree_after p v st (map call_of ms)).started
+  pub clock_starts : starts_in t (record_after r ms) ≡ (tree_after p v st (map call_of ms)).starts
+  pub finishing : finishing_cycle v r 0 ms ≡ tree_finishing p v st 0 (map call_of ms)
 
 -- A beginning on a file's table that answered a number and left a record: it answers 13, 8 or 0; refused, it has left the record as it was;
 -- not refused, every list of calls that came back as promised is alike with the unfolding
 pub record OperationsAlike (f t est r : List ℕ) (answer : ℕ) (r' : List ℕ) : Type 0 where
-  pub program : Program
-  pub program_is : program_of File f ≡ some program
+  pub program : Part
+  pub tree_is : tree_of File f ≡ some program
   pub beginning : answer ≡ first_failing ((estimateNotAllowed, estimate_allowed (variables f) est) ∷ (bufferTooShort, leb record_length (length r)) ∷ [])
   pub unbegun : (answer ≡ 0 → ⊥) → r' ≡ r
   pub begun : answer ≡ 0 → (ms : List Made) → AllPromised t r' ms → Timed (map call_of ms) → CallsAlike t r' program (variables f) (begin program (clocks f) est) ms

@@ -1,22 +1,21 @@
 -- The two runs of demand 3: one program run by its table and by unfolding its tree, over one list of calls.
 use Prim.Native.Nat.{ℕ, zero, suc, ◌+◌, ◌<◌}
 use Rattle.std.specs.Prelude.{◌≡◌, Bool, true, cond, not, ◌&&◌, ◌||◌, eqb, leb, length, set, replicate}
-use Rattle.std.proofs.Math.Option
-use Rattle.std.proofs.Math.Option.{Option, none, some}
-use mathlib.Core.List.{List, [], ◌∷◌, map}
+use Rattle.std.proofs.Math.Option.{Option, none, some, map}
+use mathlib.Core.List.{List, [], ◌∷◌}
 use Rattle.base.specs.Lists.{all, any, first_failing, bytes_at}
 use Rattle.meaning.specs.declared.Entry.{Entry}
 use Rattle.meaning.specs.Sizes.{time_limit}
 use Rattle.meaning.specs.Kinds.{START, value}
-use Rattle.meaning.specs.Tree.{Program, empty}
+use Rattle.meaning.specs.Tree.{Part}
 use Rattle.meaning.specs.declared.Form.TheVariants.{File}
-use Rattle.meaning.specs.Program.{variables, clocks, program_of}
+use Rattle.meaning.specs.Program.{variables, clocks, tree_of}
 use Rattle.meaning.specs.Table.{compiled}
 use Rattle.meaning.specs.Conditions.{Situation}
 use Rattle.meaning.specs.Record.{phase_of, last_time, estimate_in, started_in, starts_in, record_length, started_flag, waiting, offered, finished}
 use Rattle.meaning.specs.Cycle.{begin_refusal, begun_into, is_kind, gives_to, goal_bytes, offer_refusal, offered_name, offered_into, goals_into, settle_refusal, settled_into, estimate_allowed}
 use Rattle.meaning.specs.Answers.{bufferTooShort, notATable, recordNotAllowed, wrongPhase, timeBeforeLast, estimateNotAllowed, runFinished, nothingAtWork, noVariable}
-use Rattle.agreement.specs.Unfolding.{RestOf, first_rest, check_rest, working_rest, settle_rest}
+use Rattle.agreement.specs.Unfolding.{Rest, afresh, check, working, settle}
 
 -- A call: an offer's time and goal buffer, or a settling's estimate
 pub data Call : Type 0 where
@@ -65,13 +64,13 @@ start_each x [] had = had
 start_each x (e ∷ es) had = start_each x es (cond (is_kind START e) (set had e.operand.b1 x) had)
 
 -- The run by unfolding. "Its state is the phase, last time, estimate and clocks, and what remains of the tree", of which nothing does once it has ended
-pub record State (x : Program) : Type 0 where
+pub record State (p : Part) : Type 0 where
   pub phase : ℕ
   pub time : ℕ
   pub estimate : List ℕ
   pub started : List ℕ
   pub starts : List ℕ
-  pub rest : Option (RestOf x)
+  pub rest : Option (Rest p)
 
 -- what the unfolding is fed of a call: never a table, a record or an answer
 pub data Fed : Type 0 where
@@ -91,31 +90,26 @@ abbrev pub table_after : List ℕ → List ℕ → List Call → List ℕ
 table_after t r [] = r
 table_after t r (c ∷ cs) = table_after t (table_next t r c) cs
 
-module _ (x : Program) where
-  -- the phase between two cycles
-  abbrev pub phase_for : Option (RestOf x) → ℕ
-  phase_for none = finished
-  phase_for (some r) = waiting
-
-  -- "a run begins with the root afresh"; where there are no parts, "Beginning such a run gives phase 2" (document 02, R-6)
-  abbrev pub begin : ℕ → List ℕ → State x
-  begin k est = record { phase = phase_for (first_rest x); time = 0; estimate = est; started = replicate k 0; starts = replicate k 0; rest = first_rest x }
+module _ (p : Part) where
+  -- "a run begins with the root afresh"
+  abbrev pub begin : ℕ → List ℕ → State p
+  begin k est = record { phase = waiting; time = 0; estimate = est; started = replicate k 0; starts = replicate k 0; rest = some (afresh p) }
 
   -- "refusals 8 and 11 to 14 are as above", in the order of the operations
-  abbrev pub refusal_of : ℕ → State x → Fed → ℕ
+  abbrev pub refusal_of : ℕ → State p → Fed → ℕ
   refusal_of v st (offering time room) = first_failing ((runFinished, not (eqb st.phase finished)) ∷ (wrongPhase, not (eqb st.phase offered)) ∷ (timeBeforeLast, leb st.time time) ∷ (bufferTooShort, leb v room) ∷ [])
   refusal_of v st (settled est) = first_failing ((runFinished, not (eqb st.phase finished)) ∷ (wrongPhase, not (eqb st.phase waiting)) ∷ (estimateNotAllowed, estimate_allowed v est) ∷ [])
 
   -- what conditions are judged by
-  abbrev pub situation_of : State x → List ℕ → ℕ → Situation
+  abbrev pub situation_of : State p → List ℕ → ℕ → Situation
   situation_of st est time = record { estimate = est; started = st.started; starts = st.starts; time = time }
 
-  abbrev pub working_of : Option (RestOf x) → List Entry
+  abbrev pub working_of : Option (Rest p) → List Entry
   working_of none = []
-  working_of (some r) = working_rest x r
+  working_of (some r) = working p r
 
   -- the state after an offer that is not refused, with what is checked, and after a settling that is not refused
-  abbrev pub offered_state : State x → ℕ → State x
+  abbrev pub offered_state : State p → ℕ → State p
   offered_state st time =
       record {
         phase = offered;
@@ -123,14 +117,18 @@ module _ (x : Program) where
         estimate = st.estimate;
         started = st.started;
         starts = st.starts;
-        rest = Option.map (check_rest (situation_of st st.estimate time) x) st.rest;
+        rest = map (check (situation_of st st.estimate time) p) st.rest;
       }
 
-  abbrev pub settled_rest : Situation → Option (RestOf x) → Option (RestOf x)
+  abbrev pub settled_rest : Situation → Option (Rest p) → Option (Rest p)
   settled_rest sit none = none
-  settled_rest sit (some r) = settle_rest sit x r
+  settled_rest sit (some r) = settle sit p r
 
-  abbrev pub settled_state : State x → List ℕ → State x
+  abbrev pub phase_for : Option (Rest p) → ℕ
+  phase_for none = finished
+  phase_for (some r) = waiting
+
+  abbrev pub settled_state : State p → List ℕ → State p
   settled_state st est =
       record {
         phase = phase_for (settled_rest (situation_of st est st.time) st.rest);
@@ -142,27 +140,27 @@ module _ (x : Program) where
       }
 
   -- "A refused call changes nothing"
-  abbrev pub accepted_next : State x → Fed → State x
+  abbrev pub accepted_next : State p → Fed → State p
   accepted_next st (offering time room) = offered_state st time
   accepted_next st (settled est) = settled_state st est
 
-  unfoldable pub tree_next : ℕ → State x → Fed → State x
+  unfoldable pub tree_next : ℕ → State p → Fed → State p
   tree_next v st c = cond (eqb (refusal_of v st c) 0) (accepted_next st c) st
 
   -- "Goal bytes follow the offer's rule, over the GOALs that offer in what remains"
-  abbrev pub accepted_reply : ℕ → State x → Fed → Reply
+  abbrev pub accepted_reply : ℕ → State p → Fed → Reply
   accepted_reply v st (offering time room) = goals (goal_bytes v (working_of (offered_state st time).rest)) (lowest_at_work (working_of (offered_state st time).rest) 0 v)
   accepted_reply v st (settled est) = settled_reply (settled_state st est).phase
 
-  unfoldable pub tree_reply : ℕ → State x → Fed → Reply
+  unfoldable pub tree_reply : ℕ → State p → Fed → Reply
   tree_reply v st c = reply (refusal_of v st c) (accepted_reply v st c)
 
   -- The unfolding's run over a list of calls
-  abbrev pub tree_replies : ℕ → State x → List Call → List Reply
+  abbrev pub tree_replies : ℕ → State p → List Call → List Reply
   tree_replies v st [] = []
   tree_replies v st (c ∷ cs) = tree_reply v st (fed c) ∷ tree_replies v (tree_next v st (fed c)) cs
 
-  abbrev pub tree_after : ℕ → State x → List Call → State x
+  abbrev pub tree_after : ℕ → State p → List Call → State p
   tree_after v st [] = st
   tree_after v st (c ∷ cs) = tree_after v (tree_next v st (fed c)) cs
 
@@ -177,9 +175,9 @@ unfoldable pub table_finishing : List ℕ → List ℕ → ℕ → List Call →
 table_finishing t r n [] = cond (eqb (phase_of r) finished) (some n) none
 table_finishing t r n (c ∷ cs) = cond (eqb (phase_of r) finished) (some n) (table_finishing t (table_next t r c) (n + settling_count (table_reply t r c)) cs)
 
-unfoldable pub tree_finishing : (x : Program) → ℕ → State x → ℕ → List Call → Option ℕ
-tree_finishing x v st n [] = cond (eqb st.phase finished) (some n) none
-tree_finishing x v st n (c ∷ cs) = cond (eqb st.phase finished) (some n) (tree_finishing x v (tree_next x v st (fed c)) (n + settling_count (tree_reply x v st (fed c))) cs)
+unfoldable pub tree_finishing : (p : Part) → ℕ → State p → ℕ → List Call → Option ℕ
+tree_finishing p v st n [] = cond (eqb st.phase finished) (some n) none
+tree_finishing p v st n (c ∷ cs) = cond (eqb st.phase finished) (some n) (tree_finishing p v (tree_next p v st (fed c)) (n + settling_count (tree_reply p v st (fed c))) cs)
 
 -- the replies of a run never refuse with 9, 10 or 15
 abbrev pub possible : Reply → Bool
@@ -189,15 +187,15 @@ possible running = true
 possible done = true
 
 -- The two runs are alike over a list of calls, from a record and a state on
-pub record Alike (t r : List ℕ) (x : Program) (v : ℕ) (st : State x) (cs : List Call) : Type 0 where
-  pub replies : table_replies t r cs ≡ tree_replies x v st cs
+pub record Alike (t r : List ℕ) (p : Part) (v : ℕ) (st : State p) (cs : List Call) : Type 0 where
+  pub replies : table_replies t r cs ≡ tree_replies p v st cs
   pub never : all possible (table_replies t r cs) ≡ true
-  pub phases : phase_of (table_after t r cs) ≡ (tree_after x v st cs).phase
-  pub times : last_time (table_after t r cs) ≡ (tree_after x v st cs).time
-  pub estimates : estimate_in t (table_after t r cs) ≡ (tree_after x v st cs).estimate
-  pub flags : started_in t (table_after t r cs) ≡ (tree_after x v st cs).started
-  pub clock_starts : starts_in t (table_after t r cs) ≡ (tree_after x v st cs).starts
-  pub finishing : table_finishing t r 0 cs ≡ tree_finishing x v st 0 cs
+  pub phases : phase_of (table_after t r cs) ≡ (tree_after p v st cs).phase
+  pub times : last_time (table_after t r cs) ≡ (tree_after p v st cs).time
+  pub estimates : estimate_in t (table_after t r cs) ≡ (tree_after p v st cs).estimate
+  pub flags : started_in t (table_after t r cs) ≡ (tree_after p v st cs).started
+  pub clock_starts : starts_in t (table_after t r cs) ≡ (tree_after p v st cs).starts
+  pub finishing : table_finishing t r 0 cs ≡ tree_finishing p v st 0 cs
 
 -- each offer's time is one of 32 bits
 abbrev pub Timed : List Call → Type 0
@@ -205,18 +203,12 @@ Timed [] = Unit {0}
 Timed (offer time buffer ∷ cs) = (time < time_limit) × Timed cs
 Timed (settling est ∷ cs) = Timed cs
 
--- Demand 3 for a program file, a first estimate, a record buffer and a list of calls, by the definitions: the file has a program; a beginning is refused by 13 or 8
+-- Demand 3 for a program file, a first estimate, a record buffer and a list of calls, by the definitions: the file has a tree; a beginning is refused by 13 or 8
 -- and then writes nothing ("a refused beginning starts neither run"); from one that is not refused on, the two runs are alike. Every estimate that is
--- allowed is covered: "The tree comparison covers runs with gaps too" (document 02, R-4). So is the program of no parts: "Table and tree agree here too" (document 02, R-6)
+-- allowed is covered: "The tree comparison covers runs with gaps too" (document 02, R-4)
 pub record RunsAlike (f est r : List ℕ) (cs : List Call) : Type 0 where
-  pub program : Program
-  pub program_is : program_of File f ≡ some program
+  pub program : Part
+  pub tree_is : tree_of File f ≡ some program
   pub beginning : begin_refusal (compiled File f) est (length r) ≡ first_failing ((estimateNotAllowed, estimate_allowed (variables f) est) ∷ (bufferTooShort, leb record_length (length r)) ∷ [])
   pub unbegun : (begin_refusal (compiled File f) est (length r) ≡ 0 → ⊥) → begun_into (compiled File f) est r ≡ r
   pub begun : begin_refusal (compiled File f) est (length r) ≡ 0 → Alike (compiled File f) (begun_into (compiled File f) est r) program (variables f) (begin program (clocks f) est) cs
-
--- The unfolding of a program of no parts (document 02, R-6): "any offer or settling gets 14", nothing changes, and its finishing cycle is 0
-pub record FinishedAtOnce (v k : ℕ) (est : List ℕ) (cs : List Call) : Type 0 where
-  pub replies : tree_replies empty v (begin empty k est) cs ≡ map (λ c. refused runFinished) cs
-  pub unchanged : tree_after empty v (begin empty k est) cs ≡ begin empty k est
-  pub finishing : tree_finishing empty v (begin empty k est) 0 cs ≡ some 0

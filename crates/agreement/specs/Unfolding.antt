@@ -4,7 +4,7 @@ use Rattle.std.proofs.Common.{inl, inr}
 use Rattle.std.proofs.Math.Option.{Option, none, some, map}
 use Rattle.meaning.specs.declared.Entry.{Entry}
 use Rattle.meaning.specs.Kinds.{GOAL, START, WAIT, number_of}
-use Rattle.meaning.specs.Tree.{Part, Parts, goal, start, wait, seq, par, maintain, choice, repeat, one, more, Program, empty, rooted}
+use Rattle.meaning.specs.Tree.{Part, Parts, goal, start, wait, seq, par, maintain, choice, repeat, one, more}
 use Rattle.meaning.specs.Conditions.{Situation, reached, satisfied, violated}
 
 -- What remains of the children of a PAR, of which at least one is left: of the first and of the others
@@ -157,25 +157,3 @@ unfoldable mutual
   settle_running sit (more p ps) (this r) = map this (settle sit p r)
   settle_running sit (more p ps) (that c) = map that (settle_running sit ps c)
   settle_running sit (more p ps) (both r c) = rest_of_both (settle sit p r) (settle_running sit ps c)
-
--- Of a whole program: what remains of its tree. Where it has no parts nothing ever remains (document 02, R-6)
-abbrev pub RestOf : Program → Type 0
-RestOf empty = ⊥
-RestOf (rooted p) = Rest p
-
--- "a run begins with the root afresh"
-abbrev pub first_rest : (x : Program) → Option (RestOf x)
-first_rest empty = none
-first_rest (rooted p) = some (afresh p)
-
-abbrev pub check_rest : Situation → (x : Program) → RestOf x → RestOf x
-check_rest sit empty r = r
-check_rest sit (rooted p) r = check sit p r
-
-abbrev pub working_rest : (x : Program) → RestOf x → List Entry
-working_rest empty r = []
-working_rest (rooted p) r = working p r
-
-abbrev pub settle_rest : Situation → (x : Program) → RestOf x → Option (RestOf x)
-settle_rest sit empty r = none
-settle_rest sit (rooted p) r = settle sit p r

@@ -15,7 +15,7 @@ use Rattle.base.specs.Lists.{all, flag, first_failing}
 use Rattle.base.proofs.Facts.{both, equal, all_facts}
 use Rattle.base.proofs.Lists.{and_left, and_right}
 use Rattle.meaning.specs.declared.Form.TheVariants.{File}
-use Rattle.meaning.specs.Tree.{Program}
+use Rattle.meaning.specs.Tree.{Part}
 use Rattle.meaning.specs.Program.{variables, clocks, program_tests, program_refusal, Within, file_of}
 use Rattle.meaning.specs.Table.{compiled, compile_tests, compile_refusal, compiled_into, file_in, is_table, decompile_tests, decompile_refusal, decompiled_into}
 use Rattle.meaning.specs.Record.{estimate_byte_allowed, waiting, finished}
@@ -26,7 +26,6 @@ use Rattle.meaning.proofs.Files.{accepted_file, file_accepted}
 use Rattle.meaning.proofs.Refusals.{compile_first, compile_accepts, offer_refused, goals_refused, settle_refused}
 use Rattle.agreement.specs.Calls.{table_in}
 use Rattle.agreement.proofs.Agreement.{failing_passes, runs_alike}
-use Rattle.agreement.proofs.Finishing.{finished_at_once}
 use Rattle.agreement.proofs.Operations.{offer_below, settle_below, phase_settled, read_table, operations_agree}
 use Rattle.sentences.specs.Fields.{Bytes}
 use Rattle.sentences.specs.Allowed.{EstimateByte}
@@ -34,7 +33,6 @@ use Rattle.sentences.proofs.AllowedRecords.{estimate_byte, exactly_allowed}
 use Rattle.sentences.proofs.OneTable.{compiling_lays_down}
 use Rattle.sentences.proofs.RoundTrip.{inverses}
 use Rattle.sentences.proofs.Stepping.{beginning_steps, offer_steps, settling_steps}
-use Rattle.sentences.proofs.NoParts.{nothing_to_do}
 use Rattle.sentences.proofs.Only.{beginning_only, offer_only, settling_only}
 use Rattle.demands.specs.Demands.{passes, RefusedBy, Answers, NoFile, SettlingStepped, Demand1, Demand2, Demand3}
 
@@ -85,8 +83,8 @@ none_failing tests h = (to tests, from (decided tests h))
     from (inl x) z = absurd (omega (arith, x.not_done, z))
     from (inr x) z = x.0
 
--- a file is accepted exactly where it is that of a program within the limits
-files_allowed : (f : List ℕ) → (program_refusal File f ≡ 0) ↔ ((x : Program) × Within (variables f) (clocks f) x × (f ≡ file_of (variables f) (clocks f) x))
+-- a file is accepted exactly where it is that of a tree within the limits
+files_allowed : (f : List ℕ) → (program_refusal File f ≡ 0) ↔ ((p : Part) × Within (variables f) (clocks f) p × (f ≡ file_of (variables f) (clocks f) p))
 files_allowed f = (
   λ h.
       let a = accepted_file f h in
@@ -227,7 +225,6 @@ demand_2 =
           λ t r est answer r' s a bytes.
           let z = told-accepted _ _ answer s.answer_is (settle_below t r est) a in
           rw s.record_is (settling_stepped t r est answer z bytes (told-given _ _ answer s.answer_is z));
-      no_parts_lem = nothing_to_do;
       begin_only = beginning_only;
       offer_only = offer_only;
       settle_only = λ t r est a b x y h. settling_only t r est a b h x y;
@@ -235,4 +232,4 @@ demand_2 =
 
 -- Demand 3
 pub demand_3 : Demand3
-demand_3 = record { runs = runs_alike; operations = operations_agree; at_once = finished_at_once }
+demand_3 = record { runs = runs_alike; operations = operations_agree }

@@ -1,24 +1,22 @@
 -- All that is promised: the buyer's three demands, each one statement. The theorems `demand_1`, `demand_2` and `demand_3` stand in proofs/.
 -- Of the operations nothing is known here but what their contracts promise (`Operations`): a call is any answer and any bytes that came back as
 -- promised. "No call reads or writes beyond its buffers, overflows or fails to end": that the checker proves of every function of the code.
-use Rattle.std.specs.Prelude.{ℕ, ◌+◌, ◌-◌, ◌≤◌, ◌<◌, ◌≡◌, ◌⊎◌, ◌↔◌, Bool, true, false, cond, length, get_or}
-use mathlib.Core.List.{List, [], ◌∷◌, ◌++◌}
+use Rattle.std.specs.Prelude.{ℕ, ◌+◌, ◌-◌, ◌≤◌, ◌<◌, ◌≡◌, ◌⊎◌, ◌↔◌, Bool, true, false, cond, List, [], ◌∷◌, ◌++◌, length, get_or}
 use Rattle.std.proofs.lemmas.List.Edits.{sets}
 use Rattle.base.specs.Lists.{all}
 use Rattle.meaning.specs.declared.Form.TheVariants.{File}
 use Rattle.meaning.specs.Sizes.{time_limit}
-use Rattle.meaning.specs.Tree.{Program}
-use Rattle.meaning.specs.Program.{parts, variables, clocks, program_tests, program_refusal, Within, file_of}
+use Rattle.meaning.specs.Tree.{Part}
+use Rattle.meaning.specs.Program.{variables, clocks, program_tests, program_refusal, Within, file_of}
 use Rattle.meaning.specs.Table.{compiled, compile_tests, file_in, is_table, decompile_tests}
 use Rattle.meaning.specs.Record.{record_allowed}
 use Rattle.meaning.specs.Cycle.{estimate_allowed, begin_tests, fresh_record, offer_tests, offered_goals, offered_name, offered_record, settle_tests, settled_marks, settled_record, root_ended}
 use Rattle.meaning.specs.Answers.{answered, notATable}
 use Rattle.meaning.specs.Operations.{Compiled, Decompiled, Begun, Offered, Settled}
-use Rattle.agreement.specs.Runs.{Call, Timed, RunsAlike, FinishedAtOnce}
+use Rattle.agreement.specs.Runs.{Call, Timed, RunsAlike}
 use Rattle.agreement.specs.Calls.{table_in, OperationsAlike}
 use Rattle.sentences.specs.Allowed.{EstimateByte, AllowedRecord}
 use Rattle.sentences.specs.Fields.{Bytes}
-use Rattle.sentences.specs.NoParts.{NothingToDo}
 use Rattle.sentences.specs.Rows.{LaidDown}
 use Rattle.sentences.specs.RoundTrip.{Gives, Inverses}
 use Rattle.sentences.specs.Stepping.{BeginningSteps, OfferSteps, SettlingSteps}
@@ -61,8 +59,8 @@ pub record Orders : Type 0 where
 
 -- "one that document 01 allows": which files, records and estimates pass their tests
 pub record Allowed : Type 0 where
-  -- a file passes 1 to 7 exactly where it is that of a program within the limits
-  pub files : (f : List ℕ) → (all passes (program_tests File f) ≡ true) ↔ ((x : Program) × Within (variables f) (clocks f) x × (f ≡ file_of (variables f) (clocks f) x))
+  -- a file passes 1 to 7 exactly where it is that of a tree within the limits
+  pub files : (f : List ℕ) → (all passes (program_tests File f) ≡ true) ↔ ((p : Part) × Within (variables f) (clocks f) p × (f ≡ file_of (variables f) (clocks f) p))
   pub records : (t r : List ℕ) → (record_allowed t r ≡ true) ↔ AllowedRecord t r
   pub estimates : (v : ℕ) (est : List ℕ) → (estimate_allowed v est ≡ true) ↔ ((length est ≡ v) × ((i : ℕ) → i < length est → EstimateByte (get_or est i 0)))
 
@@ -114,8 +112,6 @@ pub record Demand2 : Type 0 where
       → answered ≤ answer → time < time_limit → OfferSteps t r time goals (answer - answered) r' goals'
   pub settle_steps : (t r est : List ℕ) (answer : ℕ) (r' : List ℕ) → Settled t r est answer r'
       → answered ≤ answer → Bytes r → SettlingStepped t r est answer r'
-  -- where the program has no parts, there is nothing to step
-  pub no_parts_lem : (t : List ℕ) → is_table t ≡ true → parts t ≡ 0 → NothingToDo t
   -- and the stepping leaves no byte and no name open
   pub begin_only : (t est r a b : List ℕ) → BeginningSteps t est r a → BeginningSteps t est r b → Bytes a → Bytes b → a ≡ b
   pub offer_only : (t r : List ℕ) (time : ℕ) (goals : List ℕ) (na : ℕ) (a ga : List ℕ) (nb : ℕ) (b gb : List ℕ)
@@ -133,5 +129,3 @@ pub record Demand3 : Type 0 where
   pub operations : (f out : List ℕ) (answer : ℕ) (out' : List ℕ) → Compiled f out answer out' → answer ≡ 0
       → (est r : List ℕ) (answer' : ℕ) (r' : List ℕ) → Begun (table_in f out') est r answer' r'
       → OperationsAlike f (table_in f out') est r answer' r'
-  -- where the program has no parts, the unfolding is finished at once, and so the run by the table is, by the two above
-  pub at_once : (v k : ℕ) (est : List ℕ) (cs : List Call) → FinishedAtOnce v k est cs

@@ -12,15 +12,15 @@ use lib.ListN.{length, take, length-take}
 use lib.Seq.{take_all, take-take}
 use borrow.Author.Tests.{leb-true, le-leb, lt-leb}
 use Rattle.base.specs.Lists.{all, any, first_failing}
-use Rattle.base.proofs.Lists.{and_left}
+use Rattle.base.proofs.Lists.{and_left, and_right}
 use Rattle.meaning.specs.declared.Form.TheVariants.{File}
 use Rattle.meaning.specs.Sizes.{max_parts, max_depth, length_of}
-use Rattle.meaning.specs.Tree.{program_size, program_depth}
-use Rattle.meaning.specs.Program.{sizes_in_range, entry_allowed, program_entries}
+use Rattle.meaning.specs.Tree.{size, depth}
+use Rattle.meaning.specs.Program.{sizes_in_range, entry_allowed, preorder}
 use Rattle.meaning.specs.Answers.{sizeOutOfRange, operandNotAllowed, tooDeep, bufferTooShort, notAText}
 use Rattle.meaning.proofs.Files.{file_length}
 use Rattle.text_grammar.specs.Syntax.{Text}
-use Rattle.text_grammar.specs.Trees.{text_program, text_file}
+use Rattle.text_grammar.specs.Trees.{body_tree, text_file}
 use Rattle.text_grammar.specs.Texts.{max_text_length}
 use Rattle.text_grammar.specs.Parser.{reading}
 use Rattle.text_grammar.specs.Assembling.{refusal_of, assemble_refusal}
@@ -57,11 +57,11 @@ abbrev with_words : List ℕ
 with_words = 0 ∷ notAText ∷ sizeOutOfRange ∷ operandNotAllowed ∷ tooDeep ∷ []
 
 module _ (t : List ℕ) (room : ℕ) (enough : length_of File max_parts ≤ room) where
-  roomy : (x : Text) → sizes_in_range (program_size (text_program x)) x.variables x.clocks ≡ true → leb (length (text_file x)) room ≡ true
+  roomy : (x : Text) → sizes_in_range (size (body_tree x.body)) x.variables x.clocks ≡ true → leb (length (text_file x)) room ≡ true
   unfolding text_file
   roomy x h =
-      let p = text_program x in
-      let few = leb-true (program_size p) max_parts (and_left (leb (program_size p) max_parts) _ h) in
+      let p = body_tree x.body in
+      let few = leb-true (size p) max_parts (and_left (leb (size p) max_parts) _ (and_right (leb 1 (size p)) _ h)) in
       le-leb (length (text_file x)) room (omega (arith, file_length x.variables x.clocks p, few))
 
   first : (a b c d : Bool) → (a ≡ true → d ≡ true)
@@ -78,5 +78,5 @@ module _ (t : List ℕ) (room : ℕ) (enough : length_of File max_parts ≤ room
       of : (o : Option Text) → any (eqb (refusal_of o room)) with_words ≡ true
       of none = refl
       of (some x) =
-          let p = text_program x in
-          first (sizes_in_range (program_size p) x.variables x.clocks) (all (entry_allowed x.variables x.clocks) (program_entries p)) (leb (program_depth p) max_depth) (leb (length (text_file x)) room) (roomy x)
+          let p = body_tree x.body in
+          first (sizes_in_range (size p) x.variables x.clocks) (all (entry_allowed x.variables x.clocks) (preorder p)) (leb (depth p) max_depth) (leb (length (text_file x)) room) (roomy x)

@@ -1,4 +1,4 @@
--- The listing of document 01's station 10, of a file with no parts, and of a refused file, computed by the definitions.
+-- The listing of document 01's station 10, and of a refused file, computed by the definitions.
 use Prim.Native.Nat.{ℕ}
 use mathlib.Core.Path.{◌≡◌, refl}
 use mathlib.Core.List.{List, [], ◌∷◌}
@@ -22,11 +22,6 @@ text10 =
 station10 : listing file10 ≡ text10
 unfolding file10 text10 compile digits decimal line texts_from row_lines table_text listing
 station10 = refl
-
--- the sizes alone, "0 1 0", where there are no parts (document 02, R-6)
-no_parts_lem : listing (0x00 ∷ 0x01 ∷ 0x00 ∷ []) ≡ 48 ∷ 32 ∷ 49 ∷ 32 ∷ 48 ∷ 10 ∷ []
-unfolding compile digits decimal line texts_from row_lines table_text listing
-no_parts_lem = refl
 
 -- an empty file gets "1"
 refused : listing [] ≡ 49 ∷ 10 ∷ []

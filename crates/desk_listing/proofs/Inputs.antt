@@ -10,7 +10,7 @@ use lib.ListN.{length, take}
 use lib.Seq.{get_or-take, take_all, length-take-le}
 use borrow.Author.Tests.{leb-true, le-leb, ne_eqb}
 use Rattle.base.specs.Lists.{first_failing}
-use Rattle.base.proofs.Lists.{and_left}
+use Rattle.base.proofs.Lists.{and_left, and_right}
 use Rattle.meaning.specs.declared.Form.TheVariants.{File}
 use Rattle.meaning.specs.Sizes.{max_parts, max_variables, max_clocks, header_length, length_of}
 use Rattle.meaning.specs.Program.{parts, variables, clocks, sizes_allowed, part_tests, program_refusal}
@@ -22,7 +22,9 @@ max_input = length_of File max_parts + 1
 
 few_parts : (s : List ℕ) → sizes_allowed s ≡ true → parts s ≤ max_parts
 unfolding sizes_allowed
-few_parts s h = leb-true (parts s) max_parts (and_left (leb (parts s) max_parts) (leb 1 (variables s) && (leb (variables s) max_variables && leb (clocks s) max_clocks)) h)
+few_parts s h =
+    let rest : Bool = leb 1 (variables s) && (leb (variables s) max_variables && leb (clocks s) max_clocks) in
+    leb-true (parts s) max_parts (and_left (leb (parts s) max_parts) rest (and_right (leb 1 (parts s)) (leb (parts s) max_parts && rest) h))
 
 -- bytes that are too many for a file are refused for their sizes or their length
 long_refused : (s : List ℕ) → max_input ≤ length s → program_refusal File s ≡ cond (sizes_allowed s) 3 2

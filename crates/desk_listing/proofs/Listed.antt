@@ -15,7 +15,7 @@ use Rattle.meaning.specs.declared.Answer.{Answer}
 use Rattle.meaning.specs.declared.Answer.TheVariants.{Done, Refused}
 use Rattle.meaning.specs.Answers.{refusalNumber, answerNumber}
 use Rattle.meaning.specs.Sizes.{max_parts, length_of}
-use Rattle.meaning.specs.Tree.{Program}
+use Rattle.meaning.specs.Tree.{Part}
 use Rattle.meaning.specs.Program.{parts, variables, clocks, program_refusal}
 use Rattle.meaning.specs.Table.{compiled, compile_refusal, compiled_into}
 use Rattle.meaning.proofs.Answers.{refusal-counts}
@@ -61,11 +61,11 @@ module _ (s t : List ℕ) (h : (i : ℕ) → get_or s i 0 ≡ get_or t i 0) wher
 
 -- an accepted file's table has at most 200 rows, and fits a buffer for so many
 module _ (f : List ℕ) (h : program_refusal File f ≡ 0) where
-  abbrev program : Program
-  program = (accepted File f h).0
+  abbrev part : Part
+  part = (accepted File f h).0
 
-  compiled_holds : Holds Table (compiled File f) program
-  compiled_holds = rw (compiled_is File f program (accepted File f h).1) (table_holds (variables f) (clocks f) program (accepted File f h).2.within)
+  compiled_holds : Holds Table (compiled File f) part
+  compiled_holds = rw (compiled_is File f part (accepted File f h).1) (table_holds (variables f) (clocks f) part (accepted File f h).2.within)
 
   parts_few : parts (compiled File f) ≤ max_parts
   parts_few = omega (arith, compiled_holds.parts_are, compiled_holds.within.size_fits)

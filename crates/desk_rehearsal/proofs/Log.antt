@@ -12,8 +12,8 @@ use borrow.Author.Tests.{leb-false, lt-ltb, le-ltb, eqb-true}
 use Rattle.base.specs.Lists.{flag, flat, bytes_at}
 use Rattle.base.proofs.Lists.{and_left, and_right}
 use Rattle.meaning.specs.declared.Form.TheVariants.{File}
-use Rattle.meaning.specs.Tree.{Program}
-use Rattle.meaning.specs.Program.{variables, clocks, program_of, program_refusal}
+use Rattle.meaning.specs.Tree.{Part}
+use Rattle.meaning.specs.Program.{variables, clocks, tree_of, program_refusal}
 use Rattle.meaning.specs.Table.{compiled}
 use Rattle.meaning.specs.Record.{phase_of, waiting, finished}
 use Rattle.meaning.specs.Cycle.{begin_refusal, begun_into, offer_refusal, offered_name, goals_into, settle_refusal, settled_marks, settled_into, root_ended}
@@ -123,13 +123,13 @@ lines_timed t (line ∷ lines) = first_timed t (bytes_of line) (parsed_line line
 -- The answers to lines after a beginning that is accepted, as long as the run is not begun anew, are those of the run by unfolding: refusals, goal
 -- bytes and names, "running" and "finished"
 pub log_unfolded : (f est r : List ℕ) (n : ℕ) (lines : List (List ℕ)) → program_refusal File f ≡ 0 → begin_refusal (compiled File f) est (length r) ≡ 0 → within_run lines ≡ true
-    → (x : Program) × (program_of File f ≡ some x)
-    × (answers_through (compiled File f) n (begun_into (compiled File f) est r) false lines ≡ flat reply_text (tree_replies x (variables f) (begin x (clocks f) est) (all_calls (compiled File f) lines)))
+    → (p : Part) × (tree_of File f ≡ some p)
+    × (answers_through (compiled File f) n (begun_into (compiled File f) est r) false lines ≡ flat reply_text (tree_replies p (variables f) (begin p (clocks f) est) (all_calls (compiled File f) lines)))
 log_unfolded f est r n lines a z h =
     let t : List ℕ = compiled File f in
     let alike = runs_alike f est r (all_calls t lines) a (lines_timed t lines) in (
       alike.program,
-      alike.program_is,
+      alike.tree_is,
       table_log t lines n (begun_into t est r) h ∙ ap (flat reply_text) (alike.begun z).replies,
     )
 

@@ -28,7 +28,7 @@ line_end_itself : (line_of (word "1\n1") 1 ≡ 1) × (column_of (word "1\n1") 1 
 unfolding line_of line_ends column_of leading
 line_end_itself = (refl, refl, refl, refl)
 
--- a text may begin with line ends; a program file has a kind in its fourth byte, or 0 in its first; an input of no bytes is a program file
-forms : (is_text (word "\n\n\n4 1:") ≡ true) × (is_text (word "4") ≡ true) × (is_text (200 ∷ 32 ∷ 16 ∷ 8 ∷ 49 ∷ []) ≡ false) × (is_text (0 ∷ 32 ∷ 16 ∷ []) ≡ false) × (is_text [] ≡ false)
+-- a text may begin with line ends; a program file has a kind in its fourth byte; an input of no bytes is a program file
+forms : (is_text (word "\n\n\n4 1:") ≡ true) × (is_text (word "4") ≡ true) × (is_text (200 ∷ 32 ∷ 16 ∷ 8 ∷ 49 ∷ []) ≡ false) × (is_text [] ≡ false)
 unfolding is_text
-forms = (refl, refl, refl, refl, refl)
+forms = (refl, refl, refl, refl)

@@ -1,7 +1,7 @@
 -- No program file that is accepted is taken for a text, and every text that fits the grammar is.
 use Prim.Native.Nat.{ℕ, ◌+◌, ◌≤◌, ◌<◌}
 use Prim.Native.Char.{code}
-use native.Mathlib.Decide.{dec_le, dec_lt}
+use native.Mathlib.Decide.{dec_le}
 use native.Mathlib.Omega.{arith}
 use mathlib.Core.Path.{◌≡◌, refl, sym}
 use mathlib.Core.Bool.{Bool, true, false, cond, ◌||◌, false≢true}
@@ -15,7 +15,7 @@ use Rattle.base.proofs.Lists.{and_left, and_right, all_append, same_eq, none_fai
 use Rattle.meaning.specs.declared.Form.TheVariants.{File}
 use Rattle.meaning.specs.Sizes.{header_length, length_of}
 use Rattle.meaning.specs.Kinds.{UNKNOWN, kinds, kind_of, known}
-use Rattle.meaning.specs.Program.{parts, entry_at, entries, entry_known, program_tests, program_refusal}
+use Rattle.meaning.specs.Program.{parts, sizes_allowed, entry_at, entries, entry_known, program_tests, program_refusal}
 use Rattle.text_grammar.specs.Characters.{is_blank, is_digit}
 use Rattle.text_grammar.specs.Tokens.{Mark, startWord, waitWord, maintainWord, repeatWord, ifWord, thenWord, elseWord, equalSign, differsSign, atLeastSign, belowSign, semicolon, comma, opening, closing, colon, Token, variable, clock, unknown, spelling, marks, is_number, numbered, named_token, token_among, token_of, is_known, Spelled, ends, token}
 use Rattle.text_grammar.specs.Syntax.{Text, write_text}
@@ -36,29 +36,18 @@ known_below b h = go (dec_le least_byte b)
     go (no l) = omega arith
 
 module _ (f : List ℕ) (h : program_refusal File f ≡ 0) where
-  whole : length f ≡ length_of File (parts f)
-  unfolding program_refusal
-  whole = eqb-true (length f) (length_of File (parts f)) (none_fails (program_tests File f) refl h).1.1.0
+  some_part : sizes_allowed f ≡ true → 1 ≤ parts f
+  unfolding sizes_allowed
+  some_part s = leb-true 1 (parts f) (and_left (leb 1 (parts f)) _ s)
 
-  first_known : 0 < parts f → get_or f header_length 0 < least_byte
+  first_known : (get_or f header_length 0 < least_byte) × (header_length < length f)
   unfolding program_refusal entries entry_known
-  first_known some =
-      known_below (get_or f header_length 0)
-      (each_tabulated (entry_at File f) entry_known 0 (parts f) (none_fails (program_tests File f) refl h).1.1.1.0 0 (omega arith))
-
-  -- the kind of the first part; where there is none, N itself
-  record Below : Type 0 where
-    place : ℕ
-    early : place < telling
-    inside : place < length f
-    below : get_or f place 0 < least_byte
-
-  some_below : Below
-  some_below = go (dec_lt 0 (parts f))
-    where
-      go : Dec (0 < parts f) → Below
-      go (yes some) = record { place = header_length; early = omega arith; inside = omega (arith, whole, some); below = first_known some }
-      go (no none) = record { place = 0; early = omega arith; inside = omega (arith, whole); below = omega (arith, none) }
+  first_known =
+      let tests = none_fails (program_tests File f) refl h in
+      let some = some_part tests.1.0 in
+      let long : length f ≡ length_of File (parts f) = eqb-true (length f) (length_of File (parts f)) tests.1.1.0 in
+      let kind = each_tabulated (entry_at File f) entry_known 0 (parts f) tests.1.1.1.0 0 (omega arith) in
+      (known_below (get_or f header_length 0) kind, omega (arith, long, some))
 
   pub file_no_text : is_text f ≡ false
   file_no_text = sym (no_text f (go (all (leb least_byte) (front f)) refl))
@@ -66,10 +55,9 @@ module _ (f : List ℕ) (h : program_refusal File f ≡ 0) where
       go : (b : Bool) → all (leb least_byte) (front f) ≡ b → b ≡ false
       go false e = refl
       go true e =
-          let b = some_below in
-          let inside : b.place < length (front f) = omega (arith, length-take telling f, b.early, b.inside) in
-          let passes : leb least_byte (get_or (front f) b.place 0) ≡ true = each_passes (leb least_byte) (front f) 0 e b.place inside in
-          absurd (omega (arith, leb-true least_byte (get_or (front f) b.place 0) passes, get_or-take telling f b.place 0 b.early, b.below))
+          let inside : header_length < length (front f) = omega (arith, length-take telling f, first_known.1) in
+          let passes : leb least_byte (get_or (front f) header_length 0) ≡ true = each_passes (leb least_byte) (front f) 0 e header_length inside in
+          absurd (omega (arith, leb-true least_byte (get_or (front f) header_length 0) passes, get_or-take telling f header_length 0 (omega arith), first_known.0))
 
 -- Blanks, letters and digits are not below them
 abbrev plain : List ℕ → Bool

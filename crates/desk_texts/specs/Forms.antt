@@ -6,7 +6,7 @@ use Rattle.base.specs.Lists.{all, nonempty}
 abbrev pub least_byte : ℕ
 least_byte = 10
 
--- One of so many bytes tells a program file: the fourth is the kind of a part; where there are no parts, the first is 0
+-- One of so many bytes tells a program file: the fourth is the kind of a part
 abbrev pub telling : ℕ
 telling = 4
 

@@ -20,7 +20,7 @@ not_aText_text t place = cond (ltb max_text_length (length t)) (word "refused 16
 -- A refused text gets these words by the refusal's number. Any other number is without words: only a program file, or a buffer that is too short, gets it
 unfoldable pub refusal_text : ℕ → List ℕ → ℕ → List ℕ
 refusal_text n t place =
-    cond (eqb n sizeOutOfRange) (word "refused 2: a size is out of range (0 to 200 parts, 1 to 32 variables, 0 to 16 clocks)\n")
+    cond (eqb n sizeOutOfRange) (word "refused 2: a size is out of range (1 to 200 parts, 1 to 32 variables, 0 to 16 clocks)\n")
     (cond (eqb n operandNotAllowed) (word "refused 5: a variable, clock or value is not allowed (variables below V, clocks below K, values of variables up to 250)\n")
     (cond (eqb n tooDeep) (word "refused 7: a part stands more than 16 deep\n")
     (cond (eqb n notAText) (not_aText_text t place) (refusedText n))))

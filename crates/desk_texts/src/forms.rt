@@ -2,8 +2,8 @@
 ghost use Rattle.std.specs.Prelude.{◌≡◌};
 ghost use Rattle.desk_texts.specs.Forms.{is_text};
 
-// A program file has a byte below this among its first four: the fourth is the kind of a part, and where there are no
-// parts the first is 0. A text has none: its bytes are line ends, spaces and signs that can be printed.
+// A program file has a byte below this among its first four: the fourth is the kind of a part. A text has none: its
+// bytes are line ends, spaces and signs that can be printed.
 const LEAST_BYTE: u8 = 10;
 
 const TELLING: usize = 4;

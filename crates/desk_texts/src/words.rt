@@ -59,7 +59,7 @@ pub fn write_words(why: Refusal, text: &[u8], place: usize, out: &mut [u8]) -> u
 {
     match why {
         Refusal::SizeOutOfRange => write_word(
-            b"refused 2: a size is out of range (0 to 200 parts, 1 to 32 variables, 0 to 16 clocks)\n",
+            b"refused 2: a size is out of range (1 to 200 parts, 1 to 32 variables, 0 to 16 clocks)\n",
             out,
             0,
         ),

@@ -27,15 +27,3 @@ finished = refl
 running : finishing_text (held 1 (1 ∷ 1 ∷ 0 ∷ [])) 3 ≡ word "finishing cycle -\n"
 unfolding held record_bytes finishing_text
 running = refl
-
--- the program of no parts: "Beginning such a run gives phase 2" (document 02, R-6), before any settling, and no part is marked
-reference : List ℕ
-reference = record_bytes 2 0 (1 ∷ []) [] [] []
-
-no_parts_lem : parts_text (0 ∷ 1 ∷ 0 ∷ []) reference ≡ word "parts\n"
-unfolding reference record_bytes texts_from marks_text parts_text
-no_parts_lem = refl
-
-over : summary_text (0 ∷ 1 ∷ 0 ∷ []) reference 0 ≡ word "phase 2\nlast time 0\nestimate 01\nfinishing cycle 0\n"
-unfolding reference record_bytes digits decimal numbered pairs texts_from estimate_text clocks_text finishing_text state_text summary_text
-over = refl

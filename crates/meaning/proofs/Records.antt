@@ -3,14 +3,14 @@ use Prim.Native.Nat.{ℕ, zero, suc, ◌+◌, ◌-◌, ◌*◌, ◌/◌, ◌%◌
 use native.Mathlib.Nat.{zero-add}
 use native.Mathlib.Omega.{arith}
 use mathlib.Core.Path.{◌≡◌, refl, sym, ap, ap₂, ◌∙◌}
-use mathlib.Core.Bool.{Bool, true, false, cond, ◌&&◌, false≢true, and-eq-true_iff}
+use mathlib.Core.Bool.{Bool, true, false, cond, ◌&&◌, and-eq-true_iff}
 use mathlib.Core.List.{List, [], ◌∷◌, ◌++◌, map, append_assoc, append-nil}
 use lib.Dec.{eqb, leb}
 use lib.ListN.{length, get_or, take, drop, set, replicate, length-append, length-replicate, get_or-replicate}
 use lib.Seq.{sets, length-sets}
-use borrow.Author.Tests.{le-leb, leb-true, eqb-true, eqb-false, ne_eqb}
+use borrow.Author.Tests.{le-leb, leb-true, eqb-true}
 use Rattle.base.specs.Lists.{sum, concat, flat, all, tabulate, bytes_at}
-use Rattle.base.proofs.Lists.{and_left, and_right, Passed, none_fails, cond_map, cond_same, length_pieces, all-tabulate, all_replicate}
+use Rattle.base.proofs.Lists.{and_left, Passed, none_fails, cond_map, cond_same, length_pieces, all-tabulate, all_replicate}
 use Rattle.base.proofs.Stores.{sets_start, drop_front, bytes_front, drop_join, sets_join, bytes_join}
 use Rattle.meaning.specs.Sizes.{max_parts, max_variables, max_clocks, time_width, little_endian, little_endian_value, byte_values, time_limit}
 use Rattle.meaning.specs.Program.{parts, variables, clocks}
@@ -18,9 +18,9 @@ use Rattle.meaning.specs.Table.{inside_of, is_table}
 use Rattle.meaning.specs.Conditions.{Situation}
 use Rattle.meaning.specs.declared.Transition.{Transition}
 use Rattle.meaning.specs.declared.Transition.TheVariants.{Stays, Ends, First, Second}
-use Rattle.meaning.specs.Cycle.{applied, begins, initial_marks_from, initial_marks, marks_begun, phase_with, breaks, checked_from, checked_marks, offered_record, leaves_from, settled_from, settled_marks, root_ended, clocks_after, settled_record, estimate_allowed, fresh_record, begin_tests, begin_refusal, begun_into}
-use Rattle.meaning.specs.Record.{time_place, estimate_place, started_place, starts_place, marks_place, record_length, time_at, phase_of, last_time, estimate_in, started_in, starts_in, marks_in, record_bytes, is_mark, is_zero, started_flag, rest_zero, estimate_byte_allowed, values_allowed, clock_allowed, clocks_allowed, root_allowed, parts_allowed, record_allowed, waiting, offered, finished}
-use Rattle.meaning.proofs.Tables.{table_held, root_end}
+use Rattle.meaning.specs.Cycle.{applied, begins, initial_marks_from, initial_marks, breaks, checked_from, checked_marks, offered_record, leaves_from, settled_from, settled_marks, root_ended, clocks_after, settled_record, estimate_allowed, fresh_record, begin_tests, begin_refusal, begun_into}
+use Rattle.meaning.specs.Record.{time_place, estimate_place, started_place, starts_place, marks_place, record_length, time_at, phase_of, last_time, estimate_in, started_in, starts_in, marks_in, record_bytes, is_zero, started_flag, rest_zero, estimate_byte_allowed, values_allowed, clock_allowed, clocks_allowed, root_allowed, parts_allowed, record_allowed, waiting, offered, finished}
+use Rattle.meaning.proofs.Tables.{table_held, root_there, root_end}
 use Rattle.meaning.proofs.Clocks.{length_after, each_after}
 
 -- Numbers: a number is read back from as many bytes as hold it
@@ -189,14 +189,9 @@ pub length_initial : (t : List ℕ) (q : ℕ) → length (initial_marks t q) ≡
 unfolding initial_marks
 length_initial t q = ap suc (length_initial_from t (suc q) (inside_of t q) 0)
 
--- a run begins with a mark for each part
-pub length_first : (t : List ℕ) → is_table t ≡ true → length (marks_begun t) ≡ parts t
-unfolding marks_begun
-length_first t table = go (eqb (parts t) 0) refl
-  where
-    go : (b : Bool) → eqb (parts t) 0 ≡ b → length (cond b [] (initial_marks t 0)) ≡ parts t
-    go true z = sym (eqb-true (parts t) 0 z)
-    go false z = omega (arith, length_initial t 0, eqb-false (parts t) 0 z, root_end t table)
+-- the root's are the marks of all parts
+pub length_root : (t : List ℕ) → is_table t ≡ true → length (initial_marks t 0) ≡ parts t
+length_root t table = omega (arith, length_initial t 0, root_there t table, root_end t table)
 
 pub length_checked : (t : List ℕ) (sit : Situation) (p : ℕ) (ms : List ℕ) (skip : ℕ) → length (checked_from t sit p ms skip) ≡ length ms
 unfolding checked_from
@@ -339,23 +334,6 @@ pub allowed_long : (t r : List ℕ) → record_allowed t r ≡ true → record_l
 unfolding record_allowed
 allowed_long t r h = leb-true record_length (length r) (and_left (leb record_length (length r)) (rest_zero t r && (values_allowed t r && (clocks_allowed t r && (root_allowed (phase_of r) (marks_in t r) && parts_allowed t (phase_of r) 0 (marks_in t r))))) h)
 
--- a run that goes on has a root, which is marked
-module _ (t r : List ℕ) (allowed : record_allowed t r ≡ true) (goes_on_lem : phase_of r ≡ finished → ⊥) where
-  pub root_marked : is_mark (get_or (marks_in t r) 0 0) ≡ true
-  unfolding record_allowed root_allowed
-  root_marked =
-      let marks : Bool = root_allowed (phase_of r) (marks_in t r) && parts_allowed t (phase_of r) 0 (marks_in t r) in
-      let rest = and_right (leb record_length (length r)) (rest_zero t r && (values_allowed t r && (clocks_allowed t r && marks))) allowed in
-      let last = and_right (clocks_allowed t r) marks (and_right (values_allowed t r) (clocks_allowed t r && marks) (and_right (rest_zero t r) (values_allowed t r && (clocks_allowed t r && marks)) rest)) in
-      rw (ne_eqb (phase_of r) finished goes_on_lem) at (and_left (root_allowed (phase_of r) (marks_in t r)) (parts_allowed t (phase_of r) 0 (marks_in t r)) last)
-
-  pub some_parts : 0 < parts t
-  some_parts = go (parts t) root_marked
-    where
-      go : (n : ℕ) → is_mark (get_or (bytes_at r marks_place n) 0 0) ≡ true → 0 < n
-      go zero h = absurd (false≢true h)
-      go (suc n) h = omega arith
-
 -- a record that is long enough stays so while its length stays
 pub still_long : (r s : List ℕ) → record_length ≤ length r → length s ≡ length r → record_length ≤ length s
 still_long r s long same = rw same long
@@ -374,21 +352,21 @@ module _ (t est : List ℕ) (room : ℕ) (h : begin_refusal t est room ≡ 0) wh
   begin_tests_lem = none_fails (begin_tests t est room) refl h
 
   -- what a record holds at the beginning
-  pub begun_fits : Fits t 0 est (replicate (clocks t) 0) (replicate (clocks t) 0) (marks_begun t)
-  begun_fits =
+  pub begun_fits : length (initial_marks t 0) ≡ parts t → Fits t 0 est (replicate (clocks t) 0) (replicate (clocks t) 0) (initial_marks t 0)
+  begun_fits e =
       let x = table_held t begin_tests_lem.0 in
       record {
-        shape = omega (arith, length_first t begin_tests_lem.0, (estimate_fits t est begin_tests_lem.1.0).0, length-replicate {A = ℕ} (clocks t) 0, x.1.parts_are, x.1.within.variables_fit, x.1.within.clocks_fit, x.1.within.size_fits);
+        shape = omega (arith, (estimate_fits t est begin_tests_lem.1.0).0, length-replicate {A = ℕ} (clocks t) 0, x.1.parts_are, x.1.within.variables_fit, x.1.within.clocks_fit, x.1.within.size_fits);
         time_fits = omega arith;
         starts_fit = λ c l. rw get_or-replicate (omega arith);
       }
 
 -- the record that a beginning writes
-pub begun_bytes : (t est r : List ℕ) → begin_refusal t est (length r) ≡ 0
-    → begun_into t est r ≡ record_bytes (phase_with (marks_begun t)) 0 est (replicate (clocks t) 0) (replicate (clocks t) 0) (marks_begun t) ++ drop record_length r
+pub begun_bytes : (t est r : List ℕ) → begin_refusal t est (length r) ≡ 0 → length (initial_marks t 0) ≡ parts t
+    → begun_into t est r ≡ record_bytes waiting 0 est (replicate (clocks t) 0) (replicate (clocks t) 0) (initial_marks t 0) ++ drop record_length r
 unfolding begun_into fresh_record
-begun_bytes t est r h =
-    let f : Fits t 0 est (replicate (clocks t) 0) (replicate (clocks t) 0) (marks_begun t) = begun_fits t est (length r) h in
-    let n : length (fresh_record t est) ≡ record_length = length_record f.shape (phase_with (marks_begun t)) 0 in
+begun_bytes t est r h e =
+    let f : Fits t 0 est (replicate (clocks t) 0) (replicate (clocks t) 0) (initial_marks t 0) = begun_fits t est (length r) h e in
+    let n : length (fresh_record t est) ≡ record_length = length_record f.shape waiting 0 in
     let room : record_length ≤ length r = leb-true record_length (length r) (begin_tests_lem t est (length r) h).1.1.0 in
     rw h (rw n at (sets_start r (fresh_record t est) (rw n room)))

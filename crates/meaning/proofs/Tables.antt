@@ -18,12 +18,12 @@ use Rattle.meaning.specs.declared.Form.{Form}
 use Rattle.meaning.specs.declared.Form.TheVariants.{File, Table}
 use Rattle.meaning.specs.Sizes.{number_width, no_part, header_length, links_length, row_length, operand_place, number_at}
 use Rattle.meaning.specs.Kinds.{Kind, UNKNOWN, GOAL, START, WAIT, SEQ, PAR, MAINTAIN, CHOICE, REPEAT, kind_of, number_of}
-use Rattle.meaning.specs.Tree.{Part, goal, start, wait, seq, par, maintain, choice, repeat, kind, children, operand, size, count_operand, Program, empty, rooted, program_size}
-use Rattle.meaning.specs.Program.{parts, variables, clocks, size_bytes, entry_at, entries, preorder, program_entries, program_of, program_refusal, Within, file_of}
-use Rattle.meaning.specs.Table.{Row, row_bytes, next_of, siblings, block, program_rows, table_of, compiled, end_at, parent_at, next_at, kind_at, file_in, is_table}
+use Rattle.meaning.specs.Tree.{Part, goal, start, wait, seq, par, maintain, choice, repeat, kind, children, operand, size, count_operand}
+use Rattle.meaning.specs.Program.{parts, variables, clocks, size_bytes, entry_at, entries, preorder, tree_of, program_refusal, Within, file_of}
+use Rattle.meaning.specs.Table.{Row, row_bytes, next_of, siblings, block, table_of, compiled, end_at, parent_at, next_at, kind_at, file_in, is_table}
 use Rattle.meaning.proofs.Trees.{All, part_ind, preorder_law, rows_law, block_parts_lem, length_preorder, size_law}
 use Rattle.meaning.proofs.Parsing.{kind_number_lem}
-use Rattle.meaning.proofs.Files.{Holds, accepted, held_program, held_accepted, past_header, entries_are, number_back, parts_back, file_accepted, held_file}
+use Rattle.meaning.proofs.Files.{Holds, accepted, held_tree, held_accepted, past_header, entries_are, number_back, parts_back, file_accepted, held_file}
 
 -- what a row holds of its part's entry
 abbrev pub row_entry : Row → Entry
@@ -49,14 +49,9 @@ length_rows p n q x = sym (length-map ((block p).rows n q x) row_entry) ∙ ap l
 abbrev pub no_row : Row
 no_row = record { kind = 0; end = 0; parent = 0; next = 0; operand = count_operand 0 }
 
--- the rows of a program
-pub length-all_rows : (x : Program) → length (program_rows x) ≡ program_size x
-length-all_rows empty = refl
-length-all_rows (rooted p) = length_rows p 0 no_part no_part
-
-program_entries_lem : (x : Program) → map row_entry (program_rows x) ≡ program_entries x
-program_entries_lem empty = refl
-program_entries_lem (rooted p) = rows_entries p 0 no_part no_part
+-- the rows of a tree that is a whole program
+abbrev pub tree_rows : Part → List Row
+tree_rows p = (block p).rows 0 no_part no_part
 
 -- sizes and rows
 module _ (h : List ℕ) (rs : List Row) (l : length h ≡ header_length) where
@@ -82,37 +77,37 @@ module _ (h : List ℕ) (rs : List Row) (l : length h ≡ header_length) where
   row_entries n =
       entries_are Table (h ++ flat row_bytes rs) (row_entry no_row) (map row_entry rs) (n ∙ sym (length-map rs row_entry)) (λ i k. row_entry_lem i (rw length-map at k) ∙ sym (get_or-map row_entry rs i no_row))
 
-module _ (v k : ℕ) (x : Program) (w : Within v k x) where
-  pub table_parts : parts (table_of v k x) ≡ program_size x
+module _ (v k : ℕ) (p : Part) (w : Within v k p) where
+  pub table_parts : parts (table_of v k p) ≡ size p
   unfolding table_of
-  table_parts = parts_back (program_size x) v k (flat row_bytes (program_rows x)) (omega (arith, w.size_fits))
+  table_parts = parts_back (size p) v k (flat row_bytes (tree_rows p)) (omega (arith, w.size_fits))
 
-  -- the table of a program within the limits holds that program
-  pub table_holds : Holds Table (table_of v k x) x
+  -- the table of a tree within the limits holds that tree
+  pub table_holds : Holds Table (table_of v k p) p
   unfolding table_of
   table_holds =
-      let n : parts (table_of v k x) ≡ length (program_rows x) = table_parts ∙ sym (length-all_rows x) in
+      let n : parts (table_of v k p) ≡ length (tree_rows p) = table_parts ∙ sym (length_rows p 0 no_part no_part) in
       record {
         length_is = rw n (rw (length-append, length_pieces row_bytes row_length (λ r. refl)));
         parts_are = table_parts;
-        entries_are = row_entries (size_bytes (program_size x) v k) (program_rows x) refl n ∙ program_entries_lem x;
+        entries_are = row_entries (size_bytes (size p) v k) (tree_rows p) refl n ∙ rows_entries p 0 no_part no_part;
         within = w;
       }
 
-  -- the table of a program within the limits is accepted, and that program is the one that it holds
-  pub table_accepted : (program_refusal Table (table_of v k x) ≡ 0) × (program_of Table (table_of v k x) ≡ some x) × (variables (table_of v k x) ≡ v) × (clocks (table_of v k x) ≡ k)
+  -- the table of a tree within the limits is accepted, and that tree is the one that it holds
+  pub table_accepted : (program_refusal Table (table_of v k p) ≡ 0) × (tree_of Table (table_of v k p) ≡ some p) × (variables (table_of v k p) ≡ v) × (clocks (table_of v k p) ≡ k)
   unfolding table_of
-  table_accepted = (held_accepted Table (table_of v k x) x table_holds, held_program Table (table_of v k x) x table_holds, refl, refl)
+  table_accepted = (held_accepted Table (table_of v k p) p table_holds, held_tree Table (table_of v k p) p table_holds, refl, refl)
 
-  -- the file in the table of a program within the limits is that program's file
-  pub file_in_table : file_in (table_of v k x) ≡ file_of v k x
+  -- the file in the table of a tree within the limits is that tree's file
+  pub file_in_table : file_in (table_of v k p) ≡ file_of v k p
   unfolding file_in file_of
   file_in_table = rw table_holds.entries_are (unfold table_of in refl)
 
--- the table of bytes that are read as a program is that program's
-pub compiled_is : (form : Form) (s : List ℕ) (x : Program) → program_of form s ≡ some x → compiled form s ≡ table_of (variables s) (clocks s) x
+-- the table of bytes that are read as a tree is that tree's
+pub compiled_is : (form : Form) (s : List ℕ) (p : Part) → tree_of form s ≡ some p → compiled form s ≡ table_of (variables s) (clocks s) p
 unfolding compiled
-compiled_is form s x t = rw t
+compiled_is form s p t = rw t
 
 -- from a file to its table and back is the file that was read
 pub file_back : (f : List ℕ) → program_refusal File f ≡ 0 → file_in (compiled File f) ≡ f
@@ -139,9 +134,9 @@ table_of_file t = (
       check (program_refusal File (file_in t)) (compiled File (file_in t)) t (rw e x.1) (rw e x.2),
 )
 
--- a table is the table of a program within the limits
-pub table_program : (t : List ℕ) → is_table t ≡ true → (x : Program) × Within (variables t) (clocks t) x × (t ≡ table_of (variables t) (clocks t) x)
-table_program t h =
+-- a table is the table of a tree within the limits
+pub table_tree : (t : List ℕ) → is_table t ≡ true → (p : Part) × Within (variables t) (clocks t) p × (t ≡ table_of (variables t) (clocks t) p)
+table_tree t h =
     let x = (table_of_file t).0 h in
     let a = accepted File x.0 x.1 in
     let e : t ≡ table_of (variables x.0) (clocks x.0) a.0 = sym x.2 ∙ compiled_is File x.0 a.0 a.1 in
@@ -150,16 +145,16 @@ table_program t h =
     let k : clocks t ≡ clocks x.0 = ap clocks e ∙ r.3 in
     (a.0, rw (v, k) a.2.within, rw (v, k) e)
 
--- the table of a program within the limits is a table
-pub program_table : (v k : ℕ) (x : Program) → Within v k x → is_table (table_of v k x) ≡ true
-program_table v k x w =
-    let a = file_accepted v k x w in
-    (table_of_file (table_of v k x)).1 (file_of v k x, a.0, rw (a.2, a.3) at (compiled_is File (file_of v k x) x a.1))
+-- the table of a tree within the limits is a table
+pub tree_table : (v k : ℕ) (p : Part) → Within v k p → is_table (table_of v k p) ≡ true
+tree_table v k p w =
+    let a = file_accepted v k p w in
+    (table_of_file (table_of v k p)).1 (file_of v k p, a.0, rw (a.2, a.3) at (compiled_is File (file_of v k p) p a.1))
 
--- a table holds the program that it is the table of
-pub table_held : (t : List ℕ) → is_table t ≡ true → (x : Program) × Holds Table t x × (t ≡ table_of (variables t) (clocks t) x)
+-- a table holds the tree that it is the table of
+pub table_held : (t : List ℕ) → is_table t ≡ true → (p : Part) × Holds Table t p × (t ≡ table_of (variables t) (clocks t) p)
 table_held t h =
-    let x = table_program t h in
+    let x = table_tree t h in
     (x.0, subst (λ s. Holds Table s x.0) (sym x.2) (table_holds (variables t) (clocks t) x.0 x.1), x.2)
 
 -- whether bytes are a table can be told from the bytes read as a table
@@ -169,13 +164,13 @@ table_checked t = both_true (is_table t) (eqb (program_refusal Table t) 0 && sam
     to : is_table t ≡ true → (eqb (program_refusal Table t) 0 && same (compiled Table t) t) ≡ true
     to h =
         let x = table_held t h in
-        check (program_refusal Table t) (compiled Table t) t (held_accepted Table t x.0 x.1) (compiled_is Table t x.0 (held_program Table t x.0 x.1) ∙ sym x.2)
+        check (program_refusal Table t) (compiled Table t) t (held_accepted Table t x.0 x.1) (compiled_is Table t x.0 (held_tree Table t x.0 x.1) ∙ sym x.2)
 
     from : (eqb (program_refusal Table t) 0 && same (compiled Table t) t) ≡ true → is_table t ≡ true
     from h =
         let c = checked (program_refusal Table t) (compiled Table t) t h in
         let a = accepted Table t c.0 in
-        subst (λ s. is_table s ≡ true) (sym (compiled_is Table t a.0 a.1) ∙ c.1) (program_table (variables t) (clocks t) a.0 a.2.within)
+        subst (λ s. is_table s ≡ true) (sym (compiled_is Table t a.0 a.1) ∙ c.1) (tree_table (variables t) (clocks t) a.0 a.2.within)
 
 -- row r numbered m has for its next a later sibling among the rows after it
 record Followed (m : ℕ) (r : Row) (rs : List Row) : Type 0 where
@@ -319,11 +314,10 @@ inner_links : (p : Part) → InnerLinks p
 unfolding InnerLinks
 inner_links = part_ind InnerLinks (λ p h n. siblings_links (children p) h (kind p) n (suc n) (omega arith))
 
--- the rows of a program are linked among themselves
-rows_links : (x : Program) → Links 0 (program_rows x)
+-- the rows of a whole program are linked among themselves
+rows_links : (p : Part) → Links 0 (tree_rows p)
 unfolding InnerLinks
-rows_links empty = tt
-rows_links (rooted p) =
+rows_links p =
     rw (rows_law p 0 no_part no_part)
     (record { end_after = omega (arith, length_inner p 0); end_within_lem = omega (arith, length_inner p 0); parent_is = inl refl; next_is = inl refl; branches = row_branches p 0 no_part no_part }, inner_links p 0)
 
@@ -346,95 +340,99 @@ pub record LinksInside (t : List ℕ) (p : ℕ) : Type 0 where
   pub parent_is : (parent_at t p ≡ no_part) ⊎ (parent_at t p < p)
   pub next_is : (next_at t p ≡ no_part) ⊎ ((next_at t p ≡ p) ⊎ Later t p)
 
-abbrev row_at : Program → ℕ → Row
-row_at x i = get_or (program_rows x) i no_row
+abbrev row_at : Part → ℕ → Row
+row_at p i = get_or (tree_rows p) i no_row
 
-row_linked : (x : Program) (i : ℕ) → i < program_size x → Linked i (row_at x i) (drop (suc i) (program_rows x))
-row_linked x i l = rw zero-add at (links_at (program_rows x) 0 i (rows_links x) (rw length-all_rows l))
+row_linked : (p : Part) (i : ℕ) → i < size p → Linked i (row_at p i) (drop (suc i) (tree_rows p))
+row_linked p i l = rw zero-add at (links_at (tree_rows p) 0 i (rows_links p) (rw length_rows l))
 
-rows_after : (x : Program) (i : ℕ) → length (drop (suc i) (program_rows x)) ≡ program_size x - suc i
-rows_after x i = rw (length-drop, length-all_rows)
+rows_after : (p : Part) (i : ℕ) → length (drop (suc i) (tree_rows p)) ≡ size p - suc i
+rows_after p i = rw (length-drop, length_rows)
 
-module _ (v k : ℕ) (x : Program) (w : Within v k x) where
-  row_number : (i j : ℕ) → i < program_size x → j < row_length → number_at (table_of v k x) (header_length + row_length * i + j) ≡ number_at (row_bytes (row_at x i)) j
+module _ (v k : ℕ) (p : Part) (w : Within v k p) where
+  row_number : (i j : ℕ) → i < size p → j < row_length → number_at (table_of v k p) (header_length + row_length * i + j) ≡ number_at (row_bytes (row_at p i)) j
   unfolding table_of
-  row_number i j l m = row_byte_lem (size_bytes (program_size x) v k) (program_rows x) refl i j (header_length + row_length * i + j) (rw length-all_rows l) m (omega arith)
+  row_number i j l m = row_byte_lem (size_bytes (size p) v k) (tree_rows p) refl i j (header_length + row_length * i + j) (rw length_rows l) m (omega arith)
 
-  module _ (i : ℕ) (l : i < program_size x) where
-    end_fits : (row_at x i).end ≤ program_size x
+  module _ (i : ℕ) (l : i < size p) where
+    end_fits : (row_at p i).end ≤ size p
     end_fits =
-        let a : Linked i (row_at x i) (drop (suc i) (program_rows x)) = row_linked x i l in
-        omega (arith, rows_after x i)
+        let a : Linked i (row_at p i) (drop (suc i) (tree_rows p)) = row_linked p i l in
+        omega (arith, rows_after p i)
 
-    pub end_at_lem : end_at (table_of v k x) i ≡ (row_at x i).end
-    end_at_lem = row_number i 1 l (omega arith) ∙ number_back (row_at x i).end [] (omega (arith, end_fits, w.size_fits))
+    pub end_at_lem : end_at (table_of v k p) i ≡ (row_at p i).end
+    end_at_lem = row_number i 1 l (omega arith) ∙ number_back (row_at p i).end [] (omega (arith, end_fits, w.size_fits))
 
-    pub parent_at_lem : parent_at (table_of v k x) i ≡ (row_at x i).parent
-    parent_at_lem = row_number i (1 + number_width) l (omega arith) ∙ number_back (row_at x i).parent [] (go (row_linked x i l).parent_is)
+    pub parent_at_lem : parent_at (table_of v k p) i ≡ (row_at p i).parent
+    parent_at_lem = row_number i (1 + number_width) l (omega arith) ∙ number_back (row_at p i).parent [] (go (row_linked p i l).parent_is)
       where
-        go : ((row_at x i).parent ≡ no_part) ⊎ ((row_at x i).parent < i) → (row_at x i).parent ≤ no_part
+        go : ((row_at p i).parent ≡ no_part) ⊎ ((row_at p i).parent < i) → (row_at p i).parent ≤ no_part
         go (inl e) = omega arith
         go (inr e) = omega (arith, w.size_fits)
 
-    pub next_at_lem : next_at (table_of v k x) i ≡ (row_at x i).next
-    next_at_lem = row_number i (1 + 2 * number_width) l (omega arith) ∙ number_back (row_at x i).next [] (go (row_linked x i l).next_is)
+    pub next_at_lem : next_at (table_of v k p) i ≡ (row_at p i).next
+    next_at_lem = row_number i (1 + 2 * number_width) l (omega arith) ∙ number_back (row_at p i).next [] (go (row_linked p i l).next_is)
       where
-        go : ((row_at x i).next ≡ no_part) ⊎ (((row_at x i).next ≡ i) ⊎ Followed i (row_at x i) (drop (suc i) (program_rows x))) → (row_at x i).next ≤ no_part
+        go : ((row_at p i).next ≡ no_part) ⊎ (((row_at p i).next ≡ i) ⊎ Followed i (row_at p i) (drop (suc i) (tree_rows p))) → (row_at p i).next ≤ no_part
         go (inl e) = omega arith
         go (inr (inl e)) = omega (arith, w.size_fits)
         go (inr (inr f)) = omega (arith, w.size_fits, end_fits)
 
-  later_at : (i : ℕ) → i < program_size x → Followed i (row_at x i) (drop (suc i) (program_rows x)) → Later (table_of v k x) i
+  later_at : (i : ℕ) → i < size p → Followed i (row_at p i) (drop (suc i) (tree_rows p)) → Later (table_of v k p) i
   later_at i l f =
-      let a : (row_at x i).next ≡ suc i + f.steps = f.next_end_lem ∙ f.end_is in
-      let b : suc i + f.steps < program_size x = omega (arith, rows_after x i, f.there) in
-      let c : (row_at x (suc i + f.steps)).parent ≡ (row_at x i).parent = rw get_or-drop at f.same_parent in
+      let a : (row_at p i).next ≡ suc i + f.steps = f.next_end_lem ∙ f.end_is in
+      let b : suc i + f.steps < size p = omega (arith, rows_after p i, f.there) in
+      let c : (row_at p (suc i + f.steps)).parent ≡ (row_at p i).parent = rw get_or-drop at f.same_parent in
       record {
         after = omega (arith, next_at_lem i l);
-        before_end = omega (arith, next_at_lem i l, table_parts v k x w);
+        before_end = omega (arith, next_at_lem i l, table_parts v k p w);
         next_end_lem = next_at_lem i l ∙ f.next_end_lem ∙ sym (end_at_lem i l);
         same_parent = rw (next_at_lem i l ∙ a) (parent_at_lem (suc i + f.steps) b ∙ c ∙ sym (parent_at_lem i l));
       }
 
-  inside_tree : (i : ℕ) → i < program_size x → LinksInside (table_of v k x) i
+  inside_tree : (i : ℕ) → i < size p → LinksInside (table_of v k p) i
   inside_tree i l =
-      let a : Linked i (row_at x i) (drop (suc i) (program_rows x)) = row_linked x i l in
+      let a : Linked i (row_at p i) (drop (suc i) (tree_rows p)) = row_linked p i l in
       record {
         end_after = omega (arith, end_at_lem i l);
-        end_within_lem = omega (arith, end_at_lem i l, end_fits i l, table_parts v k x w);
+        end_within_lem = omega (arith, end_at_lem i l, end_fits i l, table_parts v k p w);
         parent_is = ⊎_map (λ e. parent_at_lem i l ∙ e) (λ e. omega (arith, parent_at_lem i l)) a.parent_is;
         next_is = ⊎_map (λ e. next_at_lem i l ∙ e) (⊎_map (λ e. next_at_lem i l ∙ e) (later_at i l)) a.next_is;
       }
 
-  choice_tree : (i : ℕ) → i < program_size x → kind_at (table_of v k x) i ≡ CHOICE → (suc i < parts (table_of v k x)) × (end_at (table_of v k x) (suc i) < parts (table_of v k x))
+  choice_tree : (i : ℕ) → i < size p → kind_at (table_of v k p) i ≡ CHOICE → (suc i < parts (table_of v k p)) × (end_at (table_of v k p) (suc i) < parts (table_of v k p))
   unfolding table_of
   choice_tree i l e =
-      let r : entry_at Table (table_of v k x) i ≡ row_entry (row_at x i) = row_entry_lem (size_bytes (program_size x) v k) (program_rows x) refl i (rw length-all_rows l) in
-      let b = (row_linked x i l).branches (sym (ap (λ (x : Entry). kind_of x.kind) r) ∙ e) in
-      let m : suc i < program_size x = omega (arith, rows_after x i, b.0) in
-      let f : (row_at x (suc i)).end < suc i + (program_size x - suc i) = rw (get_or-drop, add-zero, rows_after x i) at b.1 in
-      (omega (arith, table_parts v k x w), omega (arith, table_parts v k x w, end_at_lem (suc i) m))
+      let r : entry_at Table (table_of v k p) i ≡ row_entry (row_at p i) = row_entry_lem (size_bytes (size p) v k) (tree_rows p) refl i (rw length_rows l) in
+      let b = (row_linked p i l).branches (sym (ap (λ (x : Entry). kind_of x.kind) r) ∙ e) in
+      let m : suc i < size p = omega (arith, rows_after p i, b.0) in
+      let f : (row_at p (suc i)).end < suc i + (size p - suc i) = rw (get_or-drop, add-zero, rows_after p i) at b.1 in
+      (omega (arith, table_parts v k p w), omega (arith, table_parts v k p w, end_at_lem (suc i) m))
 
 -- the numbers in each row of a table stay inside it
 pub inside : (t : List ℕ) → is_table t ≡ true → (p : ℕ) → p < parts t → LinksInside t p
 inside t h p l =
-    let x = table_program t h in
+    let x = table_tree t h in
     subst (λ s. p < parts s → LinksInside s p) (sym x.2) (λ m. inside_tree (variables t) (clocks t) x.0 x.1 p (rw (table_parts (variables t) (clocks t) x.0 x.1) at m)) l
 
--- the root ends where the table does; where there is none, 0 is read beyond the sizes
-root_end_of : (v k : ℕ) (x : Program) → Within v k x → end_at (table_of v k x) 0 ≡ parts (table_of v k x)
-root_end_of v k empty w = unfold table_of in refl
-root_end_of v k (rooted p) w =
-    let own : (row_at (rooted p) 0).end ≡ 0 + size p = rw (rows_law p 0 no_part no_part) in
-    end_at_lem v k (rooted p) w 0 (omega (arith, size_law p)) ∙ own ∙ omega (arith, table_parts v k (rooted p) w)
+-- there is a root, and it ends where the table does
+module _ (t : List ℕ) (table : is_table t ≡ true) where
+  pub root_there : 0 < parts t
+  root_there =
+      let x = table_held t table in
+      omega (arith, x.1.parts_are, size_law x.0)
 
-pub root_end : (t : List ℕ) → is_table t ≡ true → end_at t 0 ≡ parts t
-root_end t table =
-    let x = table_program t table in
-    subst (λ s. end_at s 0 ≡ parts s) (sym x.2) (root_end_of (variables t) (clocks t) x.0 x.1)
+  pub root_end : end_at t 0 ≡ parts t
+  root_end =
+      let x = table_tree t table in
+      let p : Part = x.0 in
+      let v : ℕ = variables t in
+      let k : ℕ = clocks t in
+      let own : (row_at p 0).end ≡ 0 + size p = rw (rows_law p 0 no_part no_part) in
+      subst (λ s. end_at s 0 ≡ parts s) (sym x.2) (end_at_lem v k p x.1 0 (omega (arith, size_law p)) ∙ own ∙ omega (arith, table_parts v k p x.1))
 
 -- a CHOICE has its two children inside the table
 pub choice_inside : (t : List ℕ) → is_table t ≡ true → (p : ℕ) → p < parts t → kind_at t p ≡ CHOICE → (suc p < parts t) × (end_at t (suc p) < parts t)
 choice_inside t h p l e =
-    let x = table_program t h in
+    let x = table_tree t h in
     subst (λ s. p < parts s → kind_at s p ≡ CHOICE → (suc p < parts s) × (end_at s (suc p) < parts s)) (sym x.2) (λ m. choice_tree (variables t) (clocks t) x.0 x.1 p (rw (table_parts (variables t) (clocks t) x.0 x.1) at m)) l e

@@ -9,7 +9,7 @@ use Rattle.meaning.specs.declared.Transition.{Transition}
 use Rattle.meaning.specs.declared.Transition.TheVariants.{Stays, Ends, First, Second}
 use Rattle.meaning.specs.Sizes.{time_width, no_part, little_endian}
 use Rattle.meaning.specs.Kinds.{Kind, UNKNOWN, GOAL, START, WAIT, SEQ, PAR, MAINTAIN, CHOICE, REPEAT, number_of, value}
-use Rattle.meaning.specs.Program.{parts, variables, clocks, entry_at}
+use Rattle.meaning.specs.Program.{variables, clocks, entry_at}
 use Rattle.meaning.specs.Table.{kind_at, operand_of, end_at, parent_at, next_at, inside_of, is_table}
 use Rattle.meaning.specs.Conditions.{Situation, reached, satisfied, violated}
 use Rattle.meaning.specs.Record.{time_place, estimate_place, started_place, starts_place, marks_place, record_length, phase_of, last_time, estimate_in, started_in, starts_in, marks_in, waiting, offered, finished, is_mark, started_flag, record_bytes, estimate_byte_allowed, record_allowed}
@@ -151,20 +151,9 @@ situation t r est time = record { estimate = est; started = started_in t r; star
 unfoldable pub estimate_allowed : ℕ → List ℕ → Bool
 estimate_allowed v est = eqb (length est) v && all estimate_byte_allowed est
 
--- "If the root ends, phase is 2 …, else 0": it has no next, so it has ended where it is not marked any more
-abbrev pub root_ended : List ℕ → Bool
-root_ended m = not (is_mark (get_or m 0 0))
-
-abbrev pub phase_with : List ℕ → ℕ
-phase_with m = cond (root_ended m) finished waiting
-
--- Beginning a run: "phase 0, last time 0, no clock started, the estimate stored, the root initialised". Where there are no parts nothing is marked,
--- and so "Beginning such a run gives phase 2" (document 02, R-6)
-unfoldable pub marks_begun : List ℕ → List ℕ
-marks_begun t = cond (eqb (parts t) 0) [] (initial_marks t 0)
-
+-- Beginning a run: "phase 0, last time 0, no clock started, the estimate stored, the root initialised"
 unfoldable pub fresh_record : List ℕ → List ℕ → List ℕ
-fresh_record t est = record_bytes (phase_with (marks_begun t)) 0 est (replicate (clocks t) 0) (replicate (clocks t) 0) (marks_begun t)
+fresh_record t est = record_bytes waiting 0 est (replicate (clocks t) 0) (replicate (clocks t) 0) (initial_marks t 0)
 
 -- "Beginning 9, 13, 8": each number with the test that must pass, in order; the refusal is the first that fails
 abbrev pub begin_tests : List ℕ → List ℕ → ℕ → List (ℕ × Bool)
@@ -217,6 +206,10 @@ goals_into t r time goals = cond (eqb (offer_refusal t r time (length goals)) 0)
 abbrev pub settled_marks : List ℕ → List ℕ → List ℕ → List ℕ
 settled_marks t r est = settled_from t (situation t r est (last_time r)) 0 (marks_in t r)
 
+-- "If the root ends, phase is 2": it has no next, so it has ended where it is not marked any more
+abbrev pub root_ended : List ℕ → Bool
+root_ended m = not (is_mark (get_or m 0 0))
+
 -- "root not ended, yet no leaf or deciding CHOICE marked" (refusal 15)
 unfoldable pub works_from : List ℕ → ℕ → List ℕ → Bool
 works_from t p [] = false
@@ -251,7 +244,7 @@ settled_record t r est =
     sets
     (sets
     (sets
-    (sets (set r 0 (phase_with (settled_marks t r est))) estimate_place est)
+    (sets (set r 0 (cond (root_ended (settled_marks t r est)) finished waiting)) estimate_place est)
     started_place
     (settled_flags t r))
     starts_place

@@ -7,7 +7,7 @@ use Rattle.meaning.specs.declared.Entry.{Entry}
 use Rattle.meaning.specs.declared.Form.{Form}
 use Rattle.meaning.specs.Sizes.{max_parts, max_variables, max_clocks, max_depth, number_width, header_length, length_of, kind_place, operand_place, number_bytes, number_at}
 use Rattle.meaning.specs.Kinds.{Kind, UNKNOWN, GOAL, START, WAIT, SEQ, PAR, MAINTAIN, CHOICE, REPEAT, kind_of, number_of, known, arity, operand_allowed}
-use Rattle.meaning.specs.Tree.{Part, Parts, goal, start, wait, seq, par, maintain, choice, repeat, one, more, fold, Program, empty, rooted, by_root, program_size, program_depth}
+use Rattle.meaning.specs.Tree.{Part, Parts, goal, start, wait, seq, par, maintain, choice, repeat, one, more, fold, depth, size}
 use Rattle.meaning.specs.Answers.{fileTooShort, sizeOutOfRange, wrongLength, unknownKind, operandNotAllowed, notOneTree, tooDeep}
 
 -- "Sizes first: N parts, V variables, K clocks"
@@ -23,9 +23,8 @@ clocks s = get_or s (number_width + 1) 0
 abbrev pub size_bytes : ℕ → ℕ → ℕ → List ℕ
 size_bytes n v k = number_bytes n ++ (v ∷ k ∷ [])
 
--- "a size outside its range" (refusal 2): "N = 0 is now allowed" (document 02, R-6)
 abbrev pub sizes_in_range : ℕ → ℕ → ℕ → Bool
-sizes_in_range n v k = leb n max_parts && (leb 1 v && (leb v max_variables && leb k max_clocks))
+sizes_in_range n v k = leb 1 n && (leb n max_parts && (leb 1 v && (leb v max_variables && leb k max_clocks)))
 
 unfoldable pub sizes_allowed : List ℕ → Bool
 sizes_allowed s = sizes_in_range (parts s) (variables s) (clocks s)
@@ -43,9 +42,6 @@ entries form s = tabulate (entry_at form s) 0 (parts s)
 
 unfoldable pub preorder : Part → List Entry
 preorder p = fold (λ k o es. record { kind = number_of k; operand = o } ∷ concat es) p
-
-abbrev pub program_entries : Program → List Entry
-program_entries = by_root [] preorder
 
 unfoldable pub entry_known : Entry → Bool
 entry_known e = known (kind_of e.kind)
@@ -108,30 +104,30 @@ unfoldable pub trees : List Entry → Option (List Part)
 trees [] = some []
 trees (e ∷ es) = follow (take_children e) (trees es)
 
--- "exactly one tree", or no parts at all: "Refusals 2 and 6 narrow to match" (document 02, R-6)
-abbrev pub as_program : List Part → Option Program
-as_program [] = some empty
-as_program (p ∷ []) = some (rooted p)
-as_program (p ∷ q ∷ ps) = none
+-- "exactly one tree"
+abbrev pub single : List Part → Option Part
+single [] = none
+single (p ∷ []) = some p
+single (p ∷ q ∷ ps) = none
 
-unfoldable pub program_of : Form → List ℕ → Option Program
-program_of form s = follow as_program (trees (entries form s))
+unfoldable pub tree_of : Form → List ℕ → Option Part
+tree_of form s = follow single (trees (entries form s))
 
-abbrev pub is_program : Option Program → Bool
-is_program none = false
-is_program (some x) = true
+abbrev pub is_tree : Option Part → Bool
+is_tree none = false
+is_tree (some p) = true
 
-abbrev pub depth_allowed : Option Program → Bool
+abbrev pub depth_allowed : Option Part → Bool
 depth_allowed none = true
-depth_allowed (some x) = leb (program_depth x) max_depth
+depth_allowed (some p) = leb (depth p) max_depth
 
 -- Refusals 1 to 7, "each over all parts", in order: each number with the test that must pass
 abbrev pub part_tests : Form → List ℕ → List (ℕ × Bool)
 part_tests form s =
     (unknownKind, all entry_known (entries form s))
     ∷ (operandNotAllowed, all (entry_allowed (variables s) (clocks s)) (entries form s))
-    ∷ (notOneTree, is_program (program_of form s))
-    ∷ (tooDeep, depth_allowed (program_of form s))
+    ∷ (notOneTree, is_tree (tree_of form s))
+    ∷ (tooDeep, depth_allowed (tree_of form s))
     ∷ []
 
 abbrev pub program_tests : Form → List ℕ → List (ℕ × Bool)
@@ -145,17 +141,16 @@ program_tests form s =
 unfoldable pub program_refusal : Form → List ℕ → ℕ
 program_refusal form s = first_failing (program_tests form s)
 
--- A program within the limits, for V variables and K clocks
-pub record Within (v k : ℕ) (x : Program) : Type 0 where
+-- A tree within the limits, for V variables and K clocks
+pub record Within (v k : ℕ) (p : Part) : Type 0 where
   pub one_variable : 1 ≤ v
   pub variables_fit : v ≤ max_variables
   pub clocks_fit : k ≤ max_clocks
-  pub size_fits : program_size x ≤ max_parts
-  pub depth_fits : program_depth x ≤ max_depth
-  pub entries_allowed : all (entry_allowed v k) (program_entries x) ≡ true
+  pub size_fits : size p ≤ max_parts
+  pub depth_fits : depth p ≤ max_depth
+  pub entries_allowed : all (entry_allowed v k) (preorder p) ≡ true
 
--- The file of a program with V variables and K clocks: "two parallel arrays: N kind bytes, then N operands"; of one with no parts "file and table
--- are the three sizes alone" (document 02, R-6)
+-- The file of a tree with V variables and K clocks: "two parallel arrays: N kind bytes, then N operands"
 abbrev pub kind_byte : Entry → List ℕ
 kind_byte e = e.kind ∷ []
 
@@ -168,5 +163,5 @@ entry_operand e = operand_bytes e.operand
 abbrev pub arrays : List Entry → List ℕ
 arrays es = flat kind_byte es ++ flat entry_operand es
 
-unfoldable pub file_of : ℕ → ℕ → Program → List ℕ
-file_of v k x = size_bytes (program_size x) v k ++ arrays (program_entries x)
+unfoldable pub file_of : ℕ → ℕ → Part → List ℕ
+file_of v k p = size_bytes (size p) v k ++ arrays (preorder p)

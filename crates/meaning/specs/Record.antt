@@ -132,8 +132,7 @@ unfoldable pub parts_allowed : List ℕ → ℕ → ℕ → List ℕ → Bool
 parts_allowed t phase p [] = true
 parts_allowed t phase p (m ∷ ms) = part_allowed t phase p m ms && parts_allowed t phase (suc p) ms
 
--- "in phase 2 no mark is set, otherwise the root is marked"; where there are no parts, there is no root to be marked, and "no other phase is allowed"
--- (document 02, R-6)
+-- "in phase 2 no mark is set, otherwise the root is marked"
 unfoldable pub root_allowed : ℕ → List ℕ → Bool
 root_allowed phase m = cond (eqb phase finished) (not (any is_mark m)) (is_mark (get_or m 0 0))
 

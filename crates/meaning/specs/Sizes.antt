@@ -4,8 +4,7 @@ pub use Rattle.base.specs.Lists.{bytes_at}
 use Rattle.meaning.specs.declared.Form.{Form}
 use Rattle.meaning.specs.declared.Form.TheVariants.{File, Table}
 
--- "N parts, V variables (1 to 32), K clocks (0 to 16)", of which N is at most 200 and "N = 0 is now allowed" (document 02, R-6); the deepest part
--- allowed has depth 16
+-- "N parts (1 to 200), V variables (1 to 32), K clocks (0 to 16)"; the deepest part allowed has depth 16
 abbrev pub max_parts : ℕ
 max_parts = 200
 

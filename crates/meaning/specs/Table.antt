@@ -8,8 +8,8 @@ use Rattle.meaning.specs.declared.Form.{Form}
 use Rattle.meaning.specs.declared.Form.TheVariants.{File, Table}
 use Rattle.meaning.specs.Sizes.{no_part, header_length, end_place, parent_place, next_place, row_length, length_of, number_bytes, bytes_at, number_at}
 use Rattle.meaning.specs.Kinds.{Kind, UNKNOWN, GOAL, START, WAIT, SEQ, PAR, MAINTAIN, CHOICE, REPEAT, kind_of, number_of}
-use Rattle.meaning.specs.Tree.{Part, fold, Program, by_root, program_size}
-use Rattle.meaning.specs.Program.{parts, variables, clocks, size_bytes, operand_bytes, entry_at, entries, arrays, program_of, program_tests, program_refusal}
+use Rattle.meaning.specs.Tree.{Part, fold, size}
+use Rattle.meaning.specs.Program.{parts, variables, clocks, size_bytes, operand_bytes, entry_at, entries, arrays, tree_of, program_tests, program_refusal}
 use Rattle.meaning.specs.Answers.{bufferTooShort, notATable}
 
 -- "kind; end (one past the part's last descendant); parent; next; the operand"
@@ -62,21 +62,17 @@ block_of k o bs =
 unfoldable pub block : Part → Block
 block p = fold block_of p
 
--- The rows of a program, from the root on, which has no parent and no next
-abbrev pub program_rows : Program → List Row
-program_rows = by_root [] (λ p. (block p).rows 0 no_part no_part)
+-- The table of a tree: the sizes, then a row per part, from the root on, which has no parent and no next
+unfoldable pub table_of : ℕ → ℕ → Part → List ℕ
+table_of v k p = size_bytes (size p) v k ++ flat row_bytes ((block p).rows 0 no_part no_part)
 
--- The table of a program: the sizes, then a row per part; of one with no parts "file and table are the three sizes alone" (document 02, R-6)
-unfoldable pub table_of : ℕ → ℕ → Program → List ℕ
-table_of v k x = size_bytes (program_size x) v k ++ flat row_bytes (program_rows x)
-
--- The table of a program held in a file or in a table; of a byte list that holds none there is none
-abbrev pub table_for : ℕ → ℕ → Option Program → List ℕ
+-- The table of a program held in a file or in a table; of a byte list that holds no tree there is none
+abbrev pub table_for : ℕ → ℕ → Option Part → List ℕ
 table_for v k none = []
-table_for v k (some x) = table_of v k x
+table_for v k (some p) = table_of v k p
 
 unfoldable pub compiled : Form → List ℕ → List ℕ
-compiled form s = table_for (variables s) (clocks s) (program_of form s)
+compiled form s = table_for (variables s) (clocks s) (tree_of form s)
 
 -- What row p of a table has for its part's end, parent and next
 abbrev pub end_at : List ℕ → ℕ → ℕ

@@ -82,20 +82,3 @@ size p = fold (λ k o ns. suc (sum ns)) p
 -- "The root has depth 1": how deep its deepest part stands
 unfoldable pub depth : Part → ℕ
 depth p = fold (λ k o ns. suc (largest ns)) p
-
--- A program has no parts, or it is one tree: "Frames towed as reference have a program of no parts" (document 02, R-6)
-pub data Program : Type 0 where
-  empty : Program
-  rooted : Part → Program
-
--- What is said of a program: x where it has no parts, else f of its root
-abbrev pub by_root : {A : Type 0} → A → (Part → A) → Program → A
-by_root x f empty = x
-by_root x f (rooted p) = f p
-
--- how many parts it has, and how deep the deepest stands
-abbrev pub program_size : Program → ℕ
-program_size = by_root 0 size
-
-abbrev pub program_depth : Program → ℕ
-program_depth = by_root 0 depth

@@ -9,20 +9,22 @@ use lib.Seq.{sets}
 use borrow.Author.Tests.{le-leb, lt-leb, ne_eqb}
 use Rattle.base.specs.Lists.{flat, tabulate}
 use Rattle.base.proofs.Stores.{sets-append}
+use Rattle.meaning.specs.declared.Form.{Form}
 use Rattle.meaning.specs.declared.Form.TheVariants.{File, Table}
 use Rattle.meaning.specs.declared.Refusal.{Refusal}
 use Rattle.meaning.specs.declared.Answer.{Answer}
 use Rattle.meaning.specs.declared.Answer.TheVariants.{Refused}
 use Rattle.meaning.specs.Sizes.{no_part, header_length, length_of, bytes_at}
-use Rattle.meaning.specs.Tree.{Program, empty, rooted, program_size}
-use Rattle.meaning.specs.Program.{parts, variables, clocks, size_bytes, entries, program_entries, program_of, program_refusal, operand_bytes, entry_at}
-use Rattle.meaning.specs.Table.{Row, link_bytes, row_bytes, block, program_rows, table_of, compiled, compile_refusal, compiled_into}
+use Rattle.meaning.specs.Tree.{Part, size}
+use Rattle.meaning.specs.Program.{parts, variables, clocks, size_bytes, entries, is_tree, program_refusal, operand_bytes, entry_at}
+use Rattle.meaning.specs.Table.{Row, link_bytes, row_bytes, block, table_of, compiled, compile_refusal, compiled_into}
 use Rattle.meaning.specs.Answers.{answerNumber, bufferTooShort}
 use Rattle.meaning.proofs.Answers.{is-refused}
 use Rattle.meaning.proofs.Files.{Holds, accepted, sizes_back}
 use Rattle.meaning.proofs.Tables.{rows_entries, compiled_is, row_entry}
-use Rattle.program_walk.specs.Walk.{OneProgram}
+use Rattle.program_walk.specs.Walk.{OneTree, part_at}
 use Rattle.program_rows.specs.Rows.{rows_of, linked_rows}
+use Rattle.program_walk.proofs.Standing.{Alone, alone, alone_part}
 use Rattle.meaning.specs.declared.Entry.{Entry}
 use Rattle.meaning.proofs.Refusals.{effect}
 
@@ -37,42 +39,41 @@ held_rows s (r ∷ rs) q (suc n) d =
     let later : map row_entry rs ≡ tabulate (entry_at File s) (suc q) n = cc in
     ap₂ (λ (a b : List ℕ). a ++ b) (ap (λ (x : Entry). x.kind ∷ (link_bytes r ++ operand_bytes x.operand)) (sym first)) (held_rows s rs (suc q) n later)
 
--- and so those of a program that the file holds; where it has no parts there are none
-program_rows_lem : (s : List ℕ) (x : Program) → entries File s ≡ program_entries x → linked_rows s 0 (program_rows x) ≡ flat row_bytes (program_rows x)
-unfolding linked_rows entries
-program_rows_lem s empty d = refl
-program_rows_lem s (rooted p) d = held_rows s ((block p).rows 0 no_part no_part) 0 (parts s) (rows_entries p 0 no_part no_part ∙ sym d)
+-- An accepted program has one tree
+module _ (form : Form) (s : List ℕ) (h : program_refusal form s ≡ 0) where
+  abbrev part : Part
+  part = (accepted form s h).0
 
--- An accepted file is written as its table: its sizes, then the rows of its program
+  tree_alone : Alone form s
+  tree_alone = alone form s (ap is_tree (accepted form s h).1)
+
+  part_there : part_at (entries form s) 0 ≡ part
+  part_there = let same-tree : some (part_at (entries form s) 0) ≡ some part = sym (alone_part form s tree_alone) ∙ (accepted form s h).1 in cc
+
+-- An accepted file is written as its table: its sizes, then the rows of its tree
 module _ (s : List ℕ) (h : program_refusal File s ≡ 0) where
-  abbrev program : Program
-  program = (accepted File s h).0
-
-  is : program_of File s ≡ some program
-  is = (accepted File s h).1
-
-  holds : Holds File s program
+  holds : Holds File s (part File s h)
   holds = (accepted File s h).2
 
-  abbrev rows : List ℕ
-  rows = flat row_bytes (program_rows program)
+  abbrev rows : List Row
+  rows = (block (part File s h)).rows 0 no_part no_part
 
-  pub file_program : OneProgram s
-  file_program = record { long = omega (arith, holds.length_is); program = program; is = is }
+  pub file_tree : OneTree s
+  file_tree = record { long = omega (arith, holds.length_is); part = (tree_alone File s h).part; is = (tree_alone File s h).is }
 
-  rows_are_lem : rows_of s ≡ rows
-  unfolding rows_of
-  rows_are_lem = rw is (program_rows_lem s program holds.entries_are)
+  rows_are_lem : rows_of s ≡ flat row_bytes rows
+  unfolding rows_of entries
+  rows_are_lem = rw (part_there File s h) (held_rows s rows 0 (parts s) (rows_entries (part File s h) 0 no_part no_part ∙ sym holds.entries_are))
 
-  sizes_are : bytes_at s 0 header_length ≡ size_bytes (program_size program) (variables s) (clocks s)
+  sizes_are : bytes_at s 0 header_length ≡ size_bytes (size (part File s h)) (variables s) (clocks s)
   sizes_are = sizes_back s (omega (arith, holds.parts_are, holds.within.size_fits)) ∙ ap (λ (n : ℕ). size_bytes n (variables s) (clocks s)) holds.parts_are
 
   pub table_written : (out out₁ out₂ : List ℕ) → out₁ ≡ sets out 0 (bytes_at s 0 header_length) → out₂ ≡ sets out₁ header_length (rows_of s) → out₂ ≡ sets out 0 (compiled File s)
   unfolding table_of
   table_written out out₁ out₂ h₁ h₂ =
-      rw (compiled_is File s program is, h₂, h₁, rows_are_lem)
-      (sets-append out 0 header_length (bytes_at s 0 header_length) rows refl
-      ∙ ap (λ (l : List ℕ). sets out 0 (l ++ rows)) sizes_are)
+      rw (compiled_is File s (part File s h) (accepted File s h).1, h₂, h₁, rows_are_lem)
+      (sets-append out 0 header_length (bytes_at s 0 header_length) (flat row_bytes rows) refl
+      ∙ ap (λ (l : List ℕ). sets out 0 (l ++ flat row_bytes rows)) sizes_are)
 
 -- There is room for what is written
 pub read_fits : (f : List ℕ) (n m room : ℕ) → program_refusal File f ≡ 0 → n ≡ parts f → m ≡ length_of Table n → m ≤ room → (program_refusal File f ≡ 0) × (length_of Table (parts f) ≤ room)

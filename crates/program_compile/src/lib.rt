@@ -30,7 +30,7 @@ pub fn compile(file: &[u8], table: &mut [u8]) -> Answer
     Answer::Done
 }
 
-// Writes the table of an accepted file: its sizes, and a row for each part, if it has any.
+// Writes the table of an accepted file: its sizes, and a row for each part.
 fn write_table(file: &[u8], table: &mut [u8])
     requires file_value { program_refusal File file.now ≡ 0 }
     requires file_in_bounds { length_of Table (parts file.now) ≤ length table.old }

@@ -65,14 +65,14 @@ pub fn read_sizes(s: &[u8]) -> Sizes
     }
 }
 
-// Whether the three sizes lie within their limits. "N = 0 is now allowed" (document 02, R-6).
+// Whether the three sizes lie within their limits.
 pub fn sizes_allowed(s: &[u8]) -> bool
     ensures { result ≡ sizes_allowed s.now }
 {
     let n = parts(s);
     let v = variables(s);
     let k = clocks(s);
-    (n <= MAX_PARTS) & ((1 <= v) & ((v <= MAX_VARIABLES) & (k <= MAX_CLOCKS)))
+    (1 <= n) & ((n <= MAX_PARTS) & ((1 <= v) & ((v <= MAX_VARIABLES) & (k <= MAX_CLOCKS))))
 }
 
 // How long a file or a table of n parts is.

@@ -1,8 +1,8 @@
--- Counting decides one tree: entries fill as many places as they form trees. A program is one tree, or it has no parts.
+-- Counting decides one tree: entries fill as many places as they form trees.
 use Prim.Native.Nat.{ℕ, suc, ◌+◌, ◌-◌}
 use native.Mathlib.Omega.{arith}
 use mathlib.Core.Path.{◌≡◌, refl, sym, ap, ◌∙◌}
-use mathlib.Core.Bool.{Bool, true, false, not, ◌||◌, false≢true, and-eq-true_iff}
+use mathlib.Core.Bool.{Bool, true, false, not, false≢true, and-eq-true_iff}
 use mathlib.Core.Option.{Option, none, some, none-ne-some}
 use mathlib.Core.List.{List, [], ◌∷◌}
 use lib.Dec.{eqb}
@@ -14,11 +14,8 @@ use Rattle.meaning.specs.declared.Entry.{Entry}
 use Rattle.meaning.specs.declared.Form.{Form}
 use Rattle.meaning.specs.Kinds.{Kind, UNKNOWN, GOAL, START, WAIT, SEQ, PAR, MAINTAIN, CHOICE, REPEAT, kind_of, known, operand_allowed}
 use Rattle.meaning.specs.Tree.{Part, children}
-use Rattle.meaning.specs.Program.{parts, entries, entry_known, entry_allowed, arity_of, take_children, follow, trees, as_program, program_of, is_program}
+use Rattle.meaning.specs.Program.{entries, entry_known, entry_allowed, arity_of, take_children, follow, trees, single, tree_of, is_tree}
 use Rattle.meaning.proofs.Parsing.{Placed, placed, makes}
-use Rattle.meaning.proofs.Files.{length_entries}
-use Rattle.program_walk.proofs.Entries.{entries_past}
-use Rattle.program_walk.proofs.Standing.{sizes_are}
 use Rattle.program_refusals.specs.Counting.{fills}
 
 -- A part that is placed takes its children's places and gives its own
@@ -44,7 +41,7 @@ fills_cons e es remaining f =
     let both = (and-eq-true_iff (not (eqb remaining 0)) (fills es (remaining - 1 + arity_of e))).0 f in
     (eqb-false remaining 0 (not-true (eqb remaining 0) both.0), both.1)
 
-fills_trees : (v k : ℕ) (es : List Entry) (remaining : ℕ) → all entry_known es ≡ true → all (entry_allowed v k) es ≡ true → fills es remaining ≡ true → Forms es remaining
+pub fills_trees : (v k : ℕ) (es : List Entry) (remaining : ℕ) → all entry_known es ≡ true → all (entry_allowed v k) es ≡ true → fills es remaining ≡ true → Forms es remaining
 unfolding fills trees
 fills_trees v k [] remaining known allowed f = ([], refl, sym (eqb-true remaining 0 f))
 fills_trees v k (e ∷ es) remaining known allowed f =
@@ -60,7 +57,7 @@ fills_more e es ps qs f w =
     let m : length ps - 1 + arity_of e ≡ length qs = omega (arith, ap length w.result) in
     rw (ne_eqb (length ps) 0 (λ z. omega (arith, ap length w.result)), m) f
 
-trees_fill : (es : List Entry) (ps : List Part) → trees es ≡ some ps → fills es (length ps) ≡ true
+pub trees_fill : (es : List Entry) (ps : List Part) → trees es ≡ some ps → fills es (length ps) ≡ true
 unfolding fills trees
 trees_fill [] ps t = let n : ps ≡ [] = cc in rw n
 trees_fill (e ∷ es) ps t = go (trees es) (λ qs q. trees_fill es qs q) refl t
@@ -70,27 +67,24 @@ trees_fill (e ∷ es) ps t = go (trees es) (λ qs q. trees_fill es qs q) refl t
     go (some qs) ih q h = fills_more e es ps qs (ih qs q) (placed e qs ps h)
 
 -- Exactly one tree: a list of one
-one_program : (ps : List Part) → length ps ≡ 1 → is_program (as_program ps) ≡ true
-one_program [] l = absurd (omega arith)
-one_program (p ∷ []) l = refl
-one_program (p ∷ q ∷ ps) l = absurd (omega arith)
+single_one : (ps : List Part) → length ps ≡ 1 → is_tree (single ps) ≡ true
+single_one [] l = absurd (omega arith)
+single_one (p ∷ []) l = refl
+single_one (p ∷ q ∷ ps) l = absurd (omega arith)
 
-pub one_tree : (v k : ℕ) (form : Form) (s : List ℕ) → all entry_known (entries form s) ≡ true → all (entry_allowed v k) (entries form s) ≡ true
-    → is_program (program_of form s) ≡ (eqb (parts s) 0 || fills (entries form s) 1)
-unfolding program_of trees
-one_tree v k form s known allowed = go (eqb (parts s) 0) refl (fills (entries form s) 1) refl
+single_other : (m : Option (List Part)) → ((ps : List Part) → m ≡ some ps → length ps ≡ 1 → ⊥) → is_tree (follow single m) ≡ false
+single_other none h = refl
+single_other (some []) h = refl
+single_other (some (p ∷ [])) h = absurd (h (p ∷ []) refl refl)
+single_other (some (p ∷ q ∷ ps)) h = refl
+
+pub one_tree : (v k : ℕ) (form : Form) (s : List ℕ) → all entry_known (entries form s) ≡ true → all (entry_allowed v k) (entries form s) ≡ true → is_tree (tree_of form s) ≡ fills (entries form s) 1
+unfolding tree_of
+one_tree v k form s known allowed = go (fills (entries form s) 1) refl
   where
-    -- entries that are not one tree form none, or more than one
-    other : (m : Option (List Part)) → trees (entries form s) ≡ m → (parts s ≡ 0 → ⊥) → fills (entries form s) 1 ≡ false → is_program (follow as_program m) ≡ false
-    other none t n f = refl
-    other (some []) t n f = absurd (n (sym (length_entries form s) ∙ sym (sizes_are (entries form s) [] t)))
-    other (some (p ∷ [])) t n f = absurd (false≢true (sym f ∙ trees_fill (entries form s) (p ∷ []) t))
-    other (some (p ∷ q ∷ ps)) t n f = refl
-
-    go : (z : Bool) → eqb (parts s) 0 ≡ z → (b : Bool) → fills (entries form s) 1 ≡ b → is_program (follow as_program (trees (entries form s))) ≡ (z || b)
-    go true z b f = ap (λ (es : List Entry). is_program (follow as_program (trees es))) (entries_past form s 0 (omega (arith, eqb-true (parts s) 0 z)))
-    go false z true f = let w = fills_trees v k (entries form s) 1 known allowed f in rw w.1 (one_program w.0 w.2)
-    go false z false f = other (trees (entries form s)) refl (eqb-false (parts s) 0 z) f
+    go : (b : Bool) → fills (entries form s) 1 ≡ b → is_tree (follow single (trees (entries form s))) ≡ b
+    go true f = let w = fills_trees v k (entries form s) 1 known allowed f in rw w.1 (single_one w.0 w.2)
+    go false f = single_other (trees (entries form s)) (λ ps t l. false≢true (sym f ∙ (rw l at (trees_fill (entries form s) ps t))))
 
 -- an operand that is allowed is that of a kind that is known
 allowed_known : (v k : ℕ) (e : Entry) → entry_allowed v k e ≡ true → entry_known e ≡ true

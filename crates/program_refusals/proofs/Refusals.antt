@@ -1,24 +1,26 @@
 -- Refusals 1 to 7, one law for each place where the code gives its answer.
-use Prim.Native.Nat.{ℕ, ◌≤◌, ◌<◌}
+use Prim.Native.Nat.{ℕ, ◌+◌, ◌≤◌, ◌<◌}
 use native.Mathlib.Omega.{arith}
 use mathlib.Core.Path.{◌≡◌, refl, sym, ap, ◌∙◌}
-use mathlib.Core.Bool.{Bool, true, false, not, cond}
-use mathlib.Core.Option.{some}
-use mathlib.Core.List.{List}
+use mathlib.Core.Bool.{Bool, true, false, not, cond, ◌&&◌}
+use mathlib.Core.List.{List, [], ◌∷◌, ◌++◌}
 use lib.Dec.{leb}
-use lib.ListN.{length}
-use borrow.Author.Tests.{le-leb, lt-leb, eq-eqb, ne_eqb, not-true, not-false}
+use lib.ListN.{length, length-append}
+use borrow.Author.Tests.{le-leb, lt-leb, leb-true, eq-eqb, ne_eqb, not-true, not-false}
 use Rattle.base.specs.Lists.{all, first_failing}
+use Rattle.base.proofs.Lists.{and_left}
 use Rattle.meaning.specs.declared.Form.{Form}
-use Rattle.meaning.specs.Sizes.{max_depth, header_length, length_of}
-use Rattle.meaning.specs.Tree.{Program, program_size, program_depth}
-use Rattle.meaning.specs.Program.{parts, variables, clocks, sizes_allowed, entries, entry_known, entry_allowed, program_of, is_program, part_tests, program_refusal}
+use Rattle.meaning.specs.Sizes.{max_parts, max_variables, max_clocks, max_depth, header_length, length_of}
+use Rattle.meaning.specs.Tree.{size, depth}
+use Rattle.meaning.specs.Program.{parts, variables, clocks, sizes_allowed, entries, preorder, entry_known, entry_allowed, tree_of, is_tree, part_tests, program_refusal}
 use Rattle.meaning.specs.Answers.{fileTooShort, sizeOutOfRange, wrongLength, unknownKind, operandNotAllowed, notOneTree, tooDeep}
-use Rattle.meaning.proofs.Files.{some_program}
+use Rattle.meaning.proofs.Trees.{length_preorder}
+use Rattle.meaning.proofs.Parsing.{trees_are}
+use Rattle.meaning.proofs.Files.{length_entries}
 use Rattle.program_walk.specs.Walk.{any_end, parts_end}
 use Rattle.program_walk.proofs.Entries.{all_entries, each_entry}
-use Rattle.program_walk.proofs.Standing.{all_parts}
-use Rattle.program_walk.proofs.Ending.{Fine, none_reached, whole_reached, Whole, whole}
+use Rattle.program_walk.proofs.Standing.{Alone, alone}
+use Rattle.program_walk.proofs.Ending.{Fine, whole_reached, WholeTree, whole}
 use Rattle.program_refusals.specs.Counting.{fills}
 use Rattle.program_refusals.proofs.Counting.{all_known_lem, one_tree}
 
@@ -31,6 +33,11 @@ passed r b e t = sym e ∙ not-false r t
 
 pub long_enough : (form : Form) (s : List ℕ) (n m : ℕ) → n ≡ parts s → m ≡ length_of form n → length s ≡ m → length_of form (parts s) ≤ length s
 long_enough form s n m p l f = omega (arith, f ∙ l ∙ ap (length_of form) p)
+
+-- sizes that are allowed have a part
+pub has_parts_lem : (r : Bool) (s : List ℕ) → r ≡ sizes_allowed s → not r ≡ false → 1 ≤ parts s
+unfolding sizes_allowed
+has_parts_lem r s e t = leb-true 1 (parts s) (and_left (leb 1 (parts s)) (leb (parts s) max_parts && (leb 1 (variables s) && (leb (variables s) max_variables && leb (clocks s) max_clocks))) (passed r (sizes_allowed s) e t))
 
 module _ (form : Form) (s : List ℕ) where
   pub too_short : length s < header_length → fileTooShort ≡ program_refusal form s
@@ -63,40 +70,44 @@ module _ (form : Form) (s : List ℕ) where
       pub operands_refused : not allowed ≡ true → operandNotAllowed ≡ first_failing (part_tests form s)
       operands_refused u = rw (kinds_pass, refused allowed (all (entry_allowed (variables s) (clocks s)) (entries form s)) b u)
 
-      -- the walk does not end at the last part, so there is one
-      module _ (u : not allowed ≡ false) (r : Bool) (d : r ≡ fills (entries form s) 1) (no_end : parts_end form s any_end max_depth 1 0 ≡ parts s → ⊥) where
+      module _ (u : not allowed ≡ false) (r : Bool) (d : r ≡ fills (entries form s) 1) where
         operands_pass : all (entry_allowed (variables s) (clocks s)) (entries form s) ≡ true
         operands_pass = passed allowed (all (entry_allowed (variables s) (clocks s)) (entries form s)) b u
 
-        program_is : is_program (program_of form s) ≡ r
-        program_is =
-            one_tree (variables s) (clocks s) form s kinds_pass operands_pass
-            ∙ rw (ne_eqb (parts s) 0 (λ none. no_end (none_reached form s any_end max_depth none))) (sym d)
+        tree_is : is_tree (tree_of form s) ≡ r
+        tree_is = one_tree (variables s) (clocks s) form s kinds_pass operands_pass ∙ sym d
 
         pub tree_refused : not r ≡ true → notOneTree ≡ first_failing (part_tests form s)
-        tree_refused f = rw (kinds_pass, operands_pass, program_is, not-true r f)
+        tree_refused f = rw (kinds_pass, operands_pass, tree_is, not-true r f)
+
+        -- a tree that stands alone has all parts
+        alone_size : (one : Alone form s) → size one.part ≡ parts s
+        alone_size one =
+            let are : entries form s ≡ preorder one.part ++ [] = trees_are (variables s) (clocks s) (entries form s) (one.part ∷ []) one.is kinds_pass operands_pass in
+            omega (arith, length_preorder one.part, ap length are, length-append (preorder one.part) [], length_entries form s)
 
         -- one tree of allowed parts that the walk does not find to end is too deep
-        pub depth_refused : not r ≡ false → tooDeep ≡ first_failing (part_tests form s)
-        depth_refused f =
-            let x = some_program (program_of form s) (program_is ∙ not-false r f) in
+        pub depth_refused : not r ≡ false → (parts_end form s any_end max_depth 1 0 ≡ parts s → ⊥) → tooDeep ≡ first_failing (part_tests form s)
+        depth_refused f no_end =
+            let one : Alone form s = alone form s (tree_is ∙ not-false r f) in
             let fine : (p : ℕ) → p < parts s → Fine form s any_end p = λ p h. record { allowed = each_entry form s (entry_allowed (variables s) (clocks s)) operands_pass p h; tested = refl } in
-            go x.0 x.1 (leb (program_depth x.0) max_depth) refl (whole_reached form s any_end fine max_depth x.0 x.1)
+            go one (leb (depth one.part) max_depth) refl (whole_reached form s any_end fine max_depth one.part one.is)
           where
-            go : (x : Program) → program_of form s ≡ some x → (y : Bool) → leb (program_depth x) max_depth ≡ y → parts_end form s any_end max_depth 1 0 ≡ cond y (program_size x) 0 → tooDeep ≡ first_failing (part_tests form s)
-            go x is true y-is e = absurd (no_end (e ∙ all_parts form s x is))
-            go x is false y-is e = rw (kinds_pass, operands_pass, is, y-is)
+            go : (one : Alone form s) (x : Bool) → leb (depth one.part) max_depth ≡ x → parts_end form s any_end max_depth 1 0 ≡ cond x (0 + size one.part) 0 → tooDeep ≡ first_failing (part_tests form s)
+            go one true x-is e = absurd (no_end (e ∙ omega (arith, alone_size one)))
+            go one false x-is e = rw (kinds_pass, operands_pass, one.tree, x-is)
 
-  -- a walk that ends at the last part has found a program of allowed parts that is not too deep, whatever its ends are tested for
+  -- a walk that ends at the last part has found one tree of allowed parts that is not too deep, whatever its ends are tested for
   module _ (test : ℕ → ℕ → Bool) (e n : ℕ) (e-is : e ≡ parts_end form s test max_depth 1 0) (n-is : n ≡ parts s) where
     pub no_end : (e ≡ n → ⊥) → parts_end form s test max_depth 1 0 ≡ parts s → ⊥
     no_end h d = h (e-is ∙ d ∙ sym n-is)
 
-    pub found_whole : e ≡ n → Whole form s test max_depth
-    found_whole h = whole form s test max_depth (sym e-is ∙ h ∙ n-is)
+    pub found_whole : 1 ≤ parts s → e ≡ n → WholeTree form s test max_depth
+    found_whole has_parts_lem h = whole form s test max_depth (sym e-is ∙ h ∙ n-is) (λ z. omega arith)
 
-    pub parts_pass : e ≡ n → 0 ≡ first_failing (part_tests form s)
-    parts_pass h =
-        let w : Whole form s test max_depth = found_whole h in
+    pub parts_pass : 1 ≤ parts s → e ≡ n → 0 ≡ first_failing (part_tests form s)
+    unfolding tree_of
+    parts_pass has_parts_lem h =
+        let w : WholeTree form s test max_depth = found_whole has_parts_lem h in
         let allowed : all (entry_allowed (variables s) (clocks s)) (entries form s) ≡ true = all_entries form s (entry_allowed (variables s) (clocks s)) (λ p b. (w.fine p b).allowed) in
-        rw (all_known_lem (variables s) (clocks s) (entries form s) allowed, allowed, w.is, le-leb (program_depth w.program) max_depth w.shallow)
+        rw (all_known_lem (variables s) (clocks s) (entries form s) allowed, allowed, w.tree, le-leb (depth w.part) max_depth w.shallow)

@@ -31,10 +31,11 @@ pub fn program_refusal(s: &[u8]) -> Answer
     parts_refusal(s)
 }
 
-// Refusals 4 to 7. One walk tells whether a file passes all of them, also where it has no parts; which of
-// them refuses is asked only where it does not.
+// Refusals 4 to 7. One walk tells whether a file passes all of them; which of them refuses is asked
+// only where it does not.
 fn parts_refusal(s: &[u8]) -> Answer
-    requires { length_of File (parts s.now) ≤ length s.now }
+    requires s_in_bounds { length_of File (parts s.now) ≤ length s.now }
+    requires bound { 1 ≤ parts s.now }
     ensures { answerNumber result ≡ first_failing (part_tests File s.now) }
 {
     if root_extent(s) == parts(s) {

@@ -17,16 +17,17 @@ use Rattle.meaning.specs.declared.Entry.{Entry}
 use Rattle.meaning.specs.declared.Form.TheVariants.{File, Table}
 use Rattle.meaning.specs.Sizes.{byte_values, number_limit, no_part, header_length, end_place, parent_place, next_place, row_length, length_of, number_at}
 use Rattle.meaning.specs.Kinds.{Kind, PAR, kind_of}
-use Rattle.meaning.specs.Tree.{Part, kind, children, size, Program, empty, rooted}
+use Rattle.meaning.specs.Tree.{Part, kind, children, size}
 use Rattle.meaning.specs.Program.{parts, entries, entry_at, arity_of, trees, follow, take_children, operand_bytes}
-use Rattle.meaning.specs.Table.{Row, next_of, siblings, block, program_rows}
+use Rattle.meaning.specs.Table.{Row, next_of, siblings, block}
 use Rattle.meaning.proofs.Trees.{size_law, block_parts_lem, rows_law}
 use Rattle.meaning.proofs.Tables.{length_rows}
-use Rattle.meaning.proofs.Files.{length_entries, roots}
-use Rattle.program_walk.specs.Walk.{TreeAt, Walkable, OneProgram, part_at}
+use Rattle.meaning.proofs.Parsing.{Placed, placed}
+use Rattle.meaning.proofs.Files.{length_entries}
+use Rattle.program_walk.specs.Walk.{TreeAt, Walkable, OneTree, part_at}
 use Rattle.program_rows.specs.Rows.{entry_row, with_links, linked_rows, forest_rows, Forest, inner_rows, inner_written, end_of, row_written, rows_of}
 use Rattle.program_walk.proofs.Entries.{entries_at, entries_end}
-use Rattle.program_walk.proofs.Standing.{ChildrenLeft, First, stands_entry, stands_below, left_first, left_head, left_more, head_is, head_stands, head_part, part_is, past, sizes_are, stand_alone}
+use Rattle.program_walk.proofs.Standing.{ChildrenLeft, First, stands_entry, stands_below, left_first, left_head, left_more, head_is, head_stands, head_part, part_is, past}
 
 -- a part has a row for itself and one for each part inside it
 inner_long : (p : Part) (n : ℕ) → suc (length (inner_rows p n)) ≡ size p
@@ -172,6 +173,22 @@ module _ (l : List ℕ) where
 
   there_sets : (i : ℕ) (xs : List ℕ) → i + length xs ≤ length l → There (sets l i xs) i xs
   there_sets i xs b j h = get_or-sets_in l i j xs h (omega arith)
+
+-- Trees have as many parts as they were made of
+sizes_append : (cs ds : List Part) → sum (map size (cs ++ ds)) ≡ sum (map size cs) + sum (map size ds)
+sizes_append [] ds = omega arith
+sizes_append (c ∷ cs) ds = let rest : sum (map size (cs ++ ds)) ≡ sum (map size cs) + sum (map size ds) = sizes_append cs ds in omega arith
+
+sizes_are : (xs : List Entry) (ps : List Part) → trees xs ≡ some ps → sum (map size ps) ≡ length xs
+unfolding trees
+sizes_are [] ps t = let n : ps ≡ [] = cc in rw n
+sizes_are (e ∷ xs) ps t = go (trees xs) (λ qs q. sizes_are xs qs q) refl t
+  where
+    go : (m : Option (List Part)) → ((qs : List Part) → trees xs ≡ some qs → sum (map size qs) ≡ length xs) → trees xs ≡ m → follow (take_children e) m ≡ some ps → sum (map size ps) ≡ suc (length xs)
+    go none ih q h = absurd (none-ne-some ps h)
+    go (some qs) ih q h =
+        let w : Placed e qs ps = placed e qs ps h in
+        rw (w.result, size_law w.part) (omega (arith, ih qs q, ap (λ (l : List Part). sum (map size l)) w.inner, sizes_append (children w.part) w.later))
 
 module _ (s : List ℕ) where
   abbrev all : List Entry
@@ -332,7 +349,7 @@ replaced l i xs ys zs e =
     ∙ sets_inside l i 0 (xs ++ zs) ys (rw length-append (omega arith))
     ∙ ap (sets l i) (sets_start (xs ++ zs) ys (rw length-append (omega arith)) ∙ ap (λ (n : ℕ). ys ++ drop n (xs ++ zs)) e ∙ ap (λ (r : List ℕ). ys ++ r) (drop-append_seam xs zs))
 
-module _ (s out₀ : List ℕ) (one : OneProgram s) where
+module _ (s out₀ : List ℕ) (tree : OneTree s) where
   pub grow_first : (p : ℕ) → p ≡ parts s → Growing s out₀ out₀ p
   unfolding trees forest_rows linked_rows
   grow_first p p-is = rw p-is (record { trees_left = []; are = ap trees (entries_end File s); rows = refl })
@@ -340,7 +357,7 @@ module _ (s out₀ : List ℕ) (one : OneProgram s) where
   -- a part stands at each number
   stands_at : (p : ℕ) → p < parts s → TreeAt (entries File s) p
   stands_at p h =
-      let t = trees_from s (roots one.program) (stand_alone File s one.program one.is) p (omega arith) in
+      let t = trees_from s (tree.part ∷ []) tree.is p (omega arith) in
       go t.0 t.1 (reach_end s p t.0 (omega arith) t.1)
     where
       go : (ps : List Part) → trees (drop p (entries File s)) ≡ some ps → p + sum (map size ps) ≡ parts s → TreeAt (entries File s) p
@@ -349,7 +366,7 @@ module _ (s out₀ : List ℕ) (one : OneProgram s) where
 
   module _ (p : ℕ) (h : p < parts s) where
     pub grow_walkable : Walkable File s p
-    grow_walkable = record { long = one.long; stands = stands_at p h }
+    grow_walkable = record { long = tree.long; stands = stands_at p h }
 
     module _ (q : ℕ) (q-is : q ≡ p + 1) (out : List ℕ) (g : Growing s out₀ out q) (room : length_of Table (parts s) ≤ length out₀) where
       pub grow_forest : Forest s out (p + 1)
@@ -388,18 +405,13 @@ module _ (s out₀ : List ℕ) (one : OneProgram s) where
                 ∙ ap (sets out₀ i) (sym (forest_first s p c st.later));
           }
 
--- the rows of a program's trees, which stand in no part, are its rows
-roots_rows : (s : List ℕ) (x : Program) → forest_rows s 0 (roots x) ≡ linked_rows s 0 (program_rows x)
-unfolding forest_rows next_of
-roots_rows s empty = refl
-roots_rows s (rooted c) = ap (linked_rows s 0) (append-nil ((block c).rows 0 no_part no_part))
-
-pub grow_all : (s out₀ out : List ℕ) (p : ℕ) → OneProgram s → Growing s out₀ out p → p ≤ 0 → out ≡ sets out₀ header_length (rows_of s)
-unfolding rows_of
-grow_all s out₀ out p one g h =
+pub grow_all : (s out₀ out : List ℕ) (p : ℕ) → OneTree s → Growing s out₀ out p → p ≤ 0 → out ≡ sets out₀ header_length (rows_of s)
+unfolding rows_of forest_rows next_of
+grow_all s out₀ out p tree g h =
     let none_left : p ≡ 0 = omega arith in
-    let left : g.trees_left ≡ roots one.program = cc (ap (λ (k : ℕ). trees (drop k (entries File s))) (sym none_left) ∙ g.are, stand_alone File s one.program one.is) in
+    let left : g.trees_left ≡ tree.part ∷ [] = cc (ap (λ (k : ℕ). trees (drop k (entries File s))) (sym none_left) ∙ g.are, tree.is) in
+    let root : part_at (entries File s) 0 ≡ tree.part = part_is (entries File s) 0 tree.part [] tree.is in
     g.rows
     ∙ ap (λ (k : ℕ). sets out₀ (header_length + row_length * k) (forest_rows s k g.trees_left)) none_left
-    ∙ ap (λ (ps : List Part). sets out₀ header_length (forest_rows s 0 ps)) left
-    ∙ rw one.is (ap (sets out₀ header_length) (roots_rows s one.program))
+    ∙ ap (λ (ps : List Part). sets out₀ header_length (linked_rows s 0 (siblings PAR no_part 0 (map block ps)))) left
+    ∙ rw root (ap (λ (rs : List Row). sets out₀ header_length (linked_rows s 0 rs)) (append-nil ((block tree.part).rows 0 no_part no_part)))

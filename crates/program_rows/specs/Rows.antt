@@ -1,14 +1,14 @@
 -- The rows of a table, as the code writes them: from the last part down, over the trees that stand in a file.
 use Rattle.std.specs.Prelude.{ℕ, suc, ◌+◌, ◌*◌, ◌<◌, ◌≡◌, List, [], ◌∷◌, ◌++◌, map, length, get_or, drop}
-use Rattle.std.proofs.Math.Option.{Option, none, some}
+use Rattle.std.proofs.Math.Option.{some}
 use Rattle.std.proofs.lemmas.List.Edits.{sets}
 use Rattle.meaning.specs.declared.Entry.{Entry}
 use Rattle.meaning.specs.declared.Form.TheVariants.{File}
 use Rattle.meaning.specs.Sizes.{no_part, number_bytes, header_length, parent_place, next_place, row_length}
 use Rattle.meaning.specs.Kinds.{PAR}
-use Rattle.meaning.specs.Tree.{Part, kind, children, size, Program}
-use Rattle.meaning.specs.Program.{trees, program_of, entry_at, entries, operand_bytes}
-use Rattle.meaning.specs.Table.{Row, block, siblings, program_rows}
+use Rattle.meaning.specs.Tree.{Part, kind, children, size}
+use Rattle.meaning.specs.Program.{trees, entry_at, entries, operand_bytes}
+use Rattle.meaning.specs.Table.{Row, block, siblings}
 use Rattle.program_walk.specs.Walk.{part_at}
 
 -- a part's links: its end, its parent, its next
@@ -53,10 +53,6 @@ end_of s n = n + size (part_at (entries File s) n)
 unfoldable pub row_written : List ℕ → ℕ → List ℕ → List ℕ
 row_written s n out = sets (inner_written s n out) (header_length + row_length * n) (entry_row (entry_at File s n) (end_of s n) no_part no_part)
 
--- the rows of all parts of a program: none where there are no parts (document 02, R-6), or where a file holds no program
-abbrev pub rows_for : List ℕ → Option Program → List ℕ
-rows_for s none = []
-rows_for s (some x) = linked_rows s 0 (program_rows x)
-
+-- the rows of all parts of a tree
 unfoldable pub rows_of : List ℕ → List ℕ
-rows_of s = rows_for s (program_of File s)
+rows_of s = linked_rows s 0 ((block (part_at (entries File s) 0)).rows 0 no_part no_part)

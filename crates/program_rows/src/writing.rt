@@ -6,7 +6,7 @@ ghost use Rattle.std.proofs.lemmas.List.Edits.{sets};
 ghost use Rattle.meaning.specs.declared.Form.TheVariants.{File, Table};
 ghost use Rattle.meaning.specs.Sizes.{header_length, length_of};
 ghost use Rattle.meaning.specs.Program.{parts};
-ghost use Rattle.program_walk.specs.Walk.{Walkable, OneProgram};
+ghost use Rattle.program_walk.specs.Walk.{Walkable, OneTree};
 ghost use Rattle.program_rows.specs.Rows.{Forest, row_written, rows_of};
 
 use crate::rows::{next_of, put_links, put_row};
@@ -36,9 +36,9 @@ fn write_row(s: &[u8], out: &mut [u8], p: Number)
     put_row(out, p, part, q, NO_PART, NO_PART);
 }
 
-// Writes the rows of all parts; none where there are no parts.
+// Writes the rows of all parts.
 pub fn write_rows(s: &[u8], out: &mut [u8])
-    requires one_program { OneProgram s.now }
+    requires one_tree { OneTree s.now }
     requires s_in_bounds { length_of Table (parts s.now) ≤ length out.old }
     ensures { out.new ≡ sets out.old header_length (rows_of s.now) }
 {

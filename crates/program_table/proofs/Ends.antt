@@ -3,7 +3,7 @@ use Prim.Native.Nat.{ℕ, suc, ◌+◌, ◌≤◌, ◌<◌}
 use native.Mathlib.Nat.{eq-or-lt_of_le}
 use native.Mathlib.Omega.{arith}
 use native.Mathlib.Numerals.{add-one}
-use mathlib.Core.Path.{◌≡◌, refl, sym, ap, ◌∙◌}
+use mathlib.Core.Path.{◌≡◌, refl, sym, ap, subst, ◌∙◌}
 use mathlib.Core.Logic.{◌⊎◌, inl, inr}
 use mathlib.Core.Bool.{Bool, true, false}
 use mathlib.Core.Option.{some}
@@ -17,17 +17,17 @@ use Rattle.meaning.specs.declared.Entry.{Entry}
 use Rattle.meaning.specs.declared.Form.TheVariants.{Table}
 use Rattle.meaning.specs.Sizes.{no_part, max_depth}
 use Rattle.meaning.specs.Kinds.{Kind}
-use Rattle.meaning.specs.Tree.{Part, children, size, Program, empty, rooted, program_size, program_depth}
-use Rattle.meaning.specs.Program.{parts, variables, clocks, entries, trees, program_of, program_refusal, Within}
-use Rattle.meaning.specs.Table.{end_at, is_table, table_of, compiled}
+use Rattle.meaning.specs.Tree.{Part, children, size, depth}
+use Rattle.meaning.specs.Program.{parts, variables, clocks, entries, trees, tree_of, program_refusal}
+use Rattle.meaning.specs.Table.{end_at, is_table, compiled}
 use Rattle.meaning.proofs.Trees.{All, part_ind, size_law}
-use Rattle.meaning.proofs.Files.{accepted, held_program}
+use Rattle.meaning.proofs.Files.{accepted, held_tree, single_part}
 use Rattle.meaning.proofs.Tables.{table_held, compiled_is}
 use Rattle.meaning.proofs.Entries.{entry_allowed_lem}
 use Rattle.meaning.proofs.Lies.{Lies, LieIn, own_row, children_lie, first_lies, others_lie, root_lies}
 use Rattle.program_walk.specs.Walk.{part_at, parts_end}
-use Rattle.program_walk.proofs.Standing.{peel, past, part_is, stand_alone}
-use Rattle.program_walk.proofs.Ending.{Fine, Whole, whole_reached}
+use Rattle.program_walk.proofs.Standing.{peel, past, part_is}
+use Rattle.program_walk.proofs.Ending.{Fine, WholeTree, whole_reached}
 use Rattle.program_table.specs.Checking.{end_stored, Ending}
 
 -- A part that lies in a table ends there where the entries say
@@ -58,27 +58,27 @@ module _ (t : List ℕ) (es : List Entry) where
       go (inl e) = rw (← e) ((own_row l).end_is ∙ ap (λ (d : Part). p + size d) (sym (part_is es p c later s)))
       go (inr m) = agree_in (children c) h later (children_lie l) (inner_trees p c later (drop p es) refl s) i m (omega (arith, size_law c))
 
-  agree : (c : Part) → Agree c
+  pub agree : (c : Part) → Agree c
   agree c = part_ind Agree agree_part c
 
 module _ (t : List ℕ) where
   abbrev es : List Entry
   es = entries Table t
 
-  -- the parts of the program that the entries form end in its table where the entries say
-  all_agree : (v k : ℕ) (x : Program) → program_of Table t ≡ some x → Within v k x → (p : ℕ) → p < program_size x → end_at (table_of v k x) p ≡ p + size (part_at es p)
-  all_agree v k empty is w p b = absurd (omega (arith, b))
-  all_agree v k (rooted c) is w p b = agree (table_of v k (rooted c)) es c 0 no_part no_part [] (root_lies v k c w) (stand_alone Table t (rooted c) is) p (omega arith) (omega arith)
+  -- a tree that stands alone and lies in a table from its first row on
+  all_agree : (s : List ℕ) (c : Part) → trees es ≡ some (c ∷ []) → Lies s c 0 no_part no_part → (p : ℕ) → p < size c → end_at s p ≡ p + size (part_at es p)
+  all_agree s c h l p b = agree s es c 0 no_part no_part [] l h p (omega arith) (omega arith)
 
   -- A walk that ends at the last part: the bytes hold a program, and their ends are those implied
-  pub ending_found : Whole Table t (end_stored t) max_depth → program_refusal Table t ≡ 0 → Ending t
+  pub ending_found : WholeTree Table t (end_stored t) max_depth → program_refusal Table t ≡ 0 → Ending t
   unfolding end_stored
   ending_found w z =
       let a = accepted Table t z in
-      let implied : (p : ℕ) → p < parts t → end_at (compiled Table t) p ≡ p + size (part_at es p) = λ p b. rw (compiled_is Table t a.0 a.1) (all_agree (variables t) (clocks t) a.0 a.1 a.2.within p (omega (arith, a.2.parts_are))) in
+      let tree : trees es ≡ some (a.0 ∷ []) = single_part (trees es) a.0 (unfold tree_of in a.1) in
+      let lies : Lies (compiled Table t) a.0 0 no_part no_part = subst (λ s. Lies s a.0 0 no_part no_part) (sym (compiled_is Table t a.0 a.1)) (root_lies (variables t) (clocks t) a.0 a.2.within) in
       record {
         accepted = z;
-        ends = λ p b. sym (eqb-true (p + size (part_at es p)) (end_at t p) (w.fine p b).tested) ∙ sym (implied p b);
+        ends = λ p b. sym (eqb-true (p + size (part_at es p)) (end_at t p) (w.fine p b).tested) ∙ sym (all_agree (compiled Table t) a.0 tree lies p (omega (arith, a.2.parts_are)));
       }
 
   -- And a table passes it
@@ -86,10 +86,10 @@ module _ (t : List ℕ) where
   unfolding end_stored
   table_ends table =
       let x = table_held t table in
-      let is : program_of Table t ≡ some x.0 = held_program Table t x.0 x.1 in
-      let own : (p : ℕ) → p < parts t → end_at t p ≡ p + size (part_at es p) = λ p b. ap (λ (s : List ℕ). end_at s p) x.2 ∙ all_agree (variables t) (clocks t) x.0 is x.1.within p (omega (arith, x.1.parts_are)) in
-      let fine : (p : ℕ) → p < parts t → Fine Table t (end_stored t) p = λ p b. record { allowed = entry_allowed_lem t table p b; tested = eq-eqb (p + size (part_at es p)) (end_at t p) (sym (own p b)) } in
-      whole_reached Table t (end_stored t) fine max_depth x.0 is ∙ rw (le-leb (program_depth x.0) max_depth x.1.within.depth_fits) (sym x.1.parts_are)
+      let tree : trees es ≡ some (x.0 ∷ []) = single_part (trees es) x.0 (unfold tree_of in held_tree Table t x.0 x.1) in
+      let lies : Lies t x.0 0 no_part no_part = subst (λ s. Lies s x.0 0 no_part no_part) (sym x.2) (root_lies (variables t) (clocks t) x.0 x.1.within) in
+      let fine : (p : ℕ) → p < parts t → Fine Table t (end_stored t) p = λ p b. record { allowed = entry_allowed_lem t table p b; tested = eq-eqb (p + size (part_at es p)) (end_at t p) (sym (all_agree t x.0 tree lies p (omega (arith, x.1.parts_are)))) } in
+      whole_reached Table t (end_stored t) fine max_depth x.0 tree ∙ rw (le-leb (depth x.0) max_depth x.1.within.depth_fits) (omega (arith, x.1.parts_are))
 
 -- An end compared with the one that the row says
 module _ (t : List ℕ) (q x r : ℕ) (r-is : r ≡ end_at t q) where

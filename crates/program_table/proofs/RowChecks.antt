@@ -16,12 +16,12 @@ use Rattle.meaning.specs.declared.Entry.{Entry}
 use Rattle.meaning.specs.declared.Form.TheVariants.{Table}
 use Rattle.meaning.specs.Sizes.{no_part, header_length, row_length, bytes_at, kind_length, links_length, end_place, parent_place, next_place, operand_place}
 use Rattle.meaning.specs.Kinds.{kind_of}
-use Rattle.meaning.specs.Tree.{Program}
+use Rattle.meaning.specs.Tree.{Part}
 use Rattle.meaning.specs.Program.{parts, variables, clocks, entry_at, entries}
 use Rattle.meaning.specs.Table.{next_of, compiled, table_of, end_at, parent_at, next_at, kind_at, Inside, is_table}
 use Rattle.meaning.proofs.Files.{Holds, accepted}
-use Rattle.meaning.proofs.Tables.{compiled_is, program_table, table_holds, table_accepted}
-use Rattle.meaning.proofs.Nesting.{root_parent, root_next}
+use Rattle.meaning.proofs.Tables.{compiled_is, tree_table, table_holds, table_accepted}
+use Rattle.meaning.proofs.Lies.{Lies, own_row, root_lies}
 use Rattle.program_part.specs.Readable.{Readable}
 use Rattle.program_walk.proofs.Entries.{entries_at}
 use Rattle.program_table.specs.declared.checking.Links.{Links}
@@ -39,22 +39,22 @@ module _ (t : List ℕ) (ending : Ending t) where
   abbrev whole : List ℕ
   whole = compiled Table t
 
-  program : Program
-  program = (accepted Table t ending.accepted).0
+  part : Part
+  part = (accepted Table t ending.accepted).0
 
-  held : Holds Table t program
-  unfolding program
+  held : Holds Table t part
+  unfolding part
   held = (accepted Table t ending.accepted).2
 
-  whole_is : table_of (variables t) (clocks t) program ≡ whole
-  unfolding program
+  whole_is : table_of (variables t) (clocks t) part ≡ whole
+  unfolding part
   whole_is = sym (compiled_is Table t (accepted Table t ending.accepted).0 (accepted Table t ending.accepted).1)
 
   whole_table : is_table whole ≡ true
-  whole_table = rw (← whole_is) (program_table (variables t) (clocks t) program held.within)
+  whole_table = rw (← whole_is) (tree_table (variables t) (clocks t) part held.within)
 
-  whole_holds : Holds Table whole program
-  whole_holds = subst (λ s. Holds Table s program) whole_is (table_holds (variables t) (clocks t) program held.within)
+  whole_holds : Holds Table whole part
+  whole_holds = subst (λ s. Holds Table s part) whole_is (table_holds (variables t) (clocks t) part held.within)
 
   same_parts : parts whole ≡ parts t
   same_parts = whole_holds.parts_are ∙ sym held.parts_are
@@ -203,25 +203,20 @@ module _ (t : List ℕ) (n : ℕ) (n-is : n ≡ parts t) where
     pub rows_end : n ≤ p → true ≡ rows_are t
     rows_end h = sym (all_end (row_is t) p n (rows_are t) h w.left)
 
-  -- where there are no parts there is nothing to compare
-  pub no_rows : Ending t → n ≡ 0 → true ≡ rows_are t
-  no_rows ending none = rows_end 0 (rows_none ending) (omega (arith, none))
-
   -- the root's row comes first
-  module _ (ending : Ending t) (some : n ≡ 0 → ⊥) (r : Bool) (r-is : r ≡ row_is t 0) where
+  module _ (ending : Ending t) (some : 0 < parts t) (r : Bool) (r-is : r ≡ row_is t 0) where
     pub rows_first : not r ≡ false → Comparing t n 1
-    rows_first h = rows_next 0 (rows_none ending) (omega (arith, some)) (sym r-is ∙ not-false r h)
+    rows_first h = rows_next 0 (rows_none ending) (omega (arith, n-is)) (sym r-is ∙ not-false r h)
 
     pub root_differs : not r ≡ true → false ≡ rows_are t
-    root_differs h = rows_differ 0 (rows_none ending) (omega (arith, some)) (sym r-is ∙ not-true r h)
+    root_differs h = rows_differ 0 (rows_none ending) (omega (arith, n-is)) (sym r-is ∙ not-true r h)
 
 -- The root's row: only its parent and its next are not its own
 module _ (t : List ℕ) (ending : Ending t) (some : 0 < parts t) where
   no_links : (parent_at (compiled Table t) 0 ≡ no_part) × (next_at (compiled Table t) 0 ≡ no_part)
   no_links =
-      let table = whole_table t ending in
-      let there : 0 < parts (compiled Table t) = omega (arith, same_parts t ending) in
-      (root_parent (compiled Table t) table there, root_next (compiled Table t) table there)
+      let lies : Lies (compiled Table t) (part t ending) 0 no_part no_part = subst (λ s. Lies s (part t ending) 0 no_part no_part) (whole_is t ending) (root_lies (variables t) (clocks t) (part t ending) (held t ending).within) in
+      ((own_row lies).parent_is, (own_row lies).next_is)
 
   own_is : (j : ℕ) → (j ≡ end_place → ⊥) → (j ≡ parent_place → ⊥) → (j ≡ next_place → ⊥) → j < row_length → byte_is t 0 j ≡ true
   unfolding byte_is
@@ -278,8 +273,8 @@ module _ (t : List ℕ) (ending : Ending t) where
   sizes_same : all_from is 0 header_length ≡ true
   unfolding is
   sizes_same =
-      let v : variables (compiled Table t) ≡ variables t = ap variables (sym (whole_is t ending)) ∙ (table_accepted (variables t) (clocks t) (program t ending) (held t ending).within).2 in
-      let k : clocks (compiled Table t) ≡ clocks t = ap clocks (sym (whole_is t ending)) ∙ (table_accepted (variables t) (clocks t) (program t ending) (held t ending).within).3 in
+      let v : variables (compiled Table t) ≡ variables t = ap variables (sym (whole_is t ending)) ∙ (table_accepted (variables t) (clocks t) (part t ending) (held t ending).within).2 in
+      let k : clocks (compiled Table t) ≡ clocks t = ap clocks (sym (whole_is t ending)) ∙ (table_accepted (variables t) (clocks t) (part t ending) (held t ending).within).3 in
       rw (eq-eqb (parts (compiled Table t)) (parts t) (same_parts t ending), eq-eqb (variables (compiled Table t)) (variables t) v, eq-eqb (clocks (compiled Table t)) (clocks t) k)
 
   same_is : same (compiled Table t) t ≡ all_from is 0 (length t)

@@ -14,7 +14,7 @@ use Rattle.meaning.specs.Table.{is_table}
 use Rattle.meaning.proofs.Files.{accepted}
 use Rattle.meaning.proofs.Tables.{table_checked}
 use Rattle.program_walk.specs.Walk.{parts_end}
-use Rattle.program_refusals.proofs.Refusals.{too_short, sizes_refused, length_refused, parts_refused, no_end, found_whole, parts_pass}
+use Rattle.program_refusals.proofs.Refusals.{too_short, sizes_refused, length_refused, parts_refused, has_parts_lem, no_end, found_whole, parts_pass}
 use Rattle.program_table.specs.Checking.{end_stored, Ending, rows_are}
 use Rattle.program_table.proofs.Ends.{ending_found, table_ends}
 use Rattle.program_table.proofs.RowChecks.{rows_same}
@@ -44,8 +44,9 @@ module _ (t : List ℕ) where
       module _ (g : x ≡ k) where
         pub ends_found : Ending t
         ends_found =
-            ending_found t (found_whole Table t (end_stored t) x k x-is k-is g)
-            (sym (parts_refused Table t r n m h e f n-is m-is 0 long (parts_pass Table t (end_stored t) x k x-is k-is g)))
+            let some : 1 ≤ parts t = has_parts_lem r t e f in
+            ending_found t (found_whole Table t (end_stored t) x k x-is k-is some g)
+            (sym (parts_refused Table t r n m h e f n-is m-is 0 long (parts_pass Table t (end_stored t) x k x-is k-is some g)))
 
         pub rows_decide : (b : Bool) → b ≡ rows_are t → b ≡ is_table t
         rows_decide b b-is = sym (table_checked t ∙ rw ends_found.accepted (sym (b-is ∙ rows_same t ends_found)))

@@ -122,23 +122,18 @@ fn root_matches(t: &[u8]) -> bool
     (NO_PART == parent_at(t, 0)) & (NO_PART == next_at(t, 0))
 }
 
-// Whether every row is the one implied: where there are no parts, there is none to look at. A row's kind and
-// operand imply themselves, so that only its links can differ; document 01's check goes over all eight bytes,
-// and ends at the first that differs.
+// Whether every row is the one implied. A row's kind and operand imply themselves, so that only its links can
+// differ; document 01's check goes over all eight bytes, and ends at the first that differs.
 pub(crate) fn rows_match(t: &[u8]) -> bool
-    requires t_in_bounds { length_of Table (parts t.now) ≤ length t.now }
+    requires readable { Readable Table t.now 0 }
     requires ending { Ending t.now }
     ensures { result ≡ rows_are t.now }
 {
-    let n = parts(t);
-    if n == 0 {
-        return true;
-    }
     if !root_matches(t) {
         return false;
     }
     let mut matches = true;
-    'rows: for p in 1..n {
+    'rows: for p in 1..parts(t) {
         let links = links_of(t, p);
         let start = row_place(p);
         for j in 0..ROW {

@@ -7,12 +7,12 @@ use mathlib.Core.List.{List, [], ◌∷◌, ◌++◌, map}
 use lib.ListN.{length, replicate}
 use Rattle.base.specs.Lists.{tabulate, flag}
 use Rattle.meaning.specs.declared.Form.TheVariants.{File}
-use Rattle.meaning.specs.Program.{program_of}
+use Rattle.meaning.specs.Program.{tree_of}
 use Rattle.meaning.specs.Table.{compiled}
 use Rattle.meaning.proofs.Computed.{◌gets◌, Holds, file, compile}
 use Rattle.program_part.specs.Children.{children_of}
 use Rattle.program_walk.specs.Walk.{along, part_end, parts_end}
-use Rattle.program_walk.specs.Steps.{Step, down, up, tour, program_steps, around, program_around, around_by, part_steps, along_steps, parts_steps, walk_steps}
+use Rattle.program_walk.specs.Steps.{Step, down, up, tour, tree_steps, around, around_by, part_steps, along_steps, parts_steps, walk_steps}
 
 -- SEQ(REPEAT(GOAL), CHOICE(MAINTAIN(WAIT), GOAL), PAR(WAIT)), with every kind that has children
 abbrev every_kind : List ℕ
@@ -35,19 +35,18 @@ unfoldable pub steps : List ℕ → List Step
 unfolding compile children_of along part_end parts_end part_steps along_steps parts_steps walk_steps
 steps s = walk_steps s
 
--- over a whole file, and over its program
-pub tree_walked : Option.map program_steps (program_of File every_kind) ≡ some every_step
+-- over a whole file, and over its tree
+pub tree_walked : Option.map tree_steps (tree_of File every_kind) ≡ some every_step
 unfolding compile tour
 tree_walked = refl
 
--- to the end of a file, or to where it stops: a child is missing, or not allowed; a second tree is not looked at. Over no parts there is no step (document 02, R-6)
+-- to the end of a file, or to where it stops: a child is missing, or not allowed; a second tree is not looked at
 pub file_walked : Holds
     (steps every_kind gets every_step
     ∷ steps (file ((4, 2) ∷ (1, 0) ∷ [])) gets (down 0 1 ∷ down 1 2 ∷ up 1 2 ∷ [])
     ∷ steps (file ((4, 2) ∷ (1, 0) ∷ (1, 1) ∷ [])) gets (down 0 1 ∷ down 1 2 ∷ up 1 2 ∷ down 2 2 ∷ [])
     ∷ steps (file ((1, 1) ∷ [])) gets (down 0 1 ∷ [])
     ∷ steps (file ((1, 0) ∷ (1, 0) ∷ [])) gets (down 0 1 ∷ up 0 1 ∷ [])
-    ∷ steps (file []) gets []
     ∷ [])
 unfolding steps
 file_walked = refl
@@ -65,7 +64,7 @@ depth_limited = refl
 abbrev every_around : List ℕ
 every_around = 0 ∷ 1 ∷ 2 ∷ 1 ∷ 2 ∷ 3 ∷ 2 ∷ 1 ∷ 2 ∷ []
 
-pub tree_around : Option.map program_around (program_of File every_kind) ≡ some every_around
+pub tree_around : Option.map around (tree_of File every_kind) ≡ some every_around
 unfolding compile around
 tree_around = refl
 

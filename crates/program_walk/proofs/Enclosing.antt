@@ -12,14 +12,14 @@ use borrow.Author.Tests.{lt-ltb, le-ltb}
 use Rattle.base.specs.Lists.{sum, flat, tabulate, flag}
 use Rattle.meaning.specs.Sizes.{no_part}
 use Rattle.meaning.specs.Kinds.{Kind}
-use Rattle.meaning.specs.Tree.{Part, children, size, Program, empty, rooted, program_size}
+use Rattle.meaning.specs.Tree.{Part, children, size}
 use Rattle.meaning.specs.Program.{Within}
 use Rattle.meaning.specs.Table.{table_of, end_at, is_table}
 use Rattle.meaning.proofs.Trees.{All, part_ind, size_law}
-use Rattle.meaning.proofs.Tables.{program_table}
+use Rattle.meaning.proofs.Tables.{tree_table}
 use Rattle.meaning.proofs.Lies.{Lies, LieIn, own_row, children_lie, first_lies, others_lie, root_lies}
 use Rattle.meaning.proofs.Nesting.{lower, nested}
-use Rattle.program_walk.specs.Steps.{around, program_around, around_by}
+use Rattle.program_walk.specs.Steps.{around, around_by}
 use Rattle.program_walk.proofs.TreeSteps.{around_root, around_inside, around_first, around_later}
 
 -- a sum over numbers one after the other, in two runs
@@ -80,10 +80,9 @@ module _ (t : List ℕ) (table : is_table t ≡ true) where
           let inside = rw there at (each_counts (children p) h (children_lie l) i (omega (arith, b, size_law p))) in
           omega (arith, own, inside, around_inside p i (omega (arith, b, size_law p)))
 
--- part i of a program stands in as many parts as there are before it, in the program's table, that end after it
-pub around_ends : (v k : ℕ) (x : Program) → Within v k x → (i : ℕ) → i < program_size x → around_by (table_of v k x) i ≡ get_or (program_around x) i 0
+-- part i of a tree stands in as many parts as there are before it, in the tree's table, that end after it
+pub around_ends : (v k : ℕ) (p : Part) → Within v k p → (i : ℕ) → i < size p → around_by (table_of v k p) i ≡ get_or (around p) i 0
 unfolding around_by Counts
-around_ends v k empty w i h = absurd (omega (arith, h))
-around_ends v k (rooted p) w i h =
+around_ends v k p w i h =
     let z : 0 + i ≡ i = omega arith in
-    rw z at (counts (table_of v k (rooted p)) (program_table v k (rooted p) w) p 0 no_part no_part (root_lies v k p w) i h)
+    rw z at (counts (table_of v k p) (tree_table v k p w) p 0 no_part no_part (root_lies v k p w) i h)

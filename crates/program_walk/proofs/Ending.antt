@@ -10,30 +10,26 @@ use mathlib.Core.List.{List, [], ◌∷◌, ◌++◌, map}
 use lib.Dec.{eqb, ltb, leb}
 use lib.ListN.{length, drop}
 use lib.Seq.{drop-drop}
-use borrow.Author.Tests.{ltb-true, ltb-false, lt-ltb, le-ltb, eqb-true, eqb-false, ne_eqb, le-leb, lt-leb, leb-true, leb-false}
+use borrow.Author.Tests.{ltb-true, ltb-false, lt-ltb, eqb-true, eqb-false, ne_eqb, le-leb, lt-leb, leb-true, leb-false}
 use Rattle.base.specs.Lists.{sum, largest}
 use Rattle.base.proofs.Lists.{cond_same}
 use Rattle.meaning.specs.declared.Entry.{Entry}
 use Rattle.meaning.specs.declared.Form.{Form}
-use Rattle.meaning.specs.Tree.{Part, children, size, depth, Program, empty, rooted, program_size, program_depth}
-use Rattle.meaning.specs.Program.{parts, variables, clocks, entry_at, entries, entry_allowed, arity_of, trees, follow, as_program, program_of}
+use Rattle.meaning.specs.Tree.{Part, children, size, depth}
+use Rattle.meaning.specs.Program.{parts, variables, clocks, entry_at, entries, entry_allowed, arity_of, trees}
 use Rattle.meaning.proofs.Trees.{size_law, depth_law}
 use Rattle.meaning.proofs.Parsing.{makes_of}
 use Rattle.program_part.specs.Children.{count_if, children_of}
 use Rattle.program_walk.specs.Walk.{TreeAt, part_at, along, accepted_by, end_with, part_end, parts_end}
-use Rattle.program_walk.proofs.Entries.{entries_at, entries_past, entries_end}
-use Rattle.program_walk.proofs.Standing.{past, part_is, stands_below, stands_entry, stand_alone, all_parts}
+use Rattle.program_walk.proofs.Entries.{entries_at, entries_end}
+use Rattle.program_walk.proofs.Standing.{past, part_is, stands_below, stands_entry}
 
 -- Where a part that stands at p ends, if it is not too deep; and where parts do that stand from q on
-abbrev end_within : ℕ → Part → ℕ → ℕ
+abbrev pub end_within : ℕ → Part → ℕ → ℕ
 end_within levels part p = cond (leb (depth part) levels) (p + size part) 0
 
 abbrev ends_within : ℕ → List Part → ℕ → ℕ
 ends_within levels cs q = cond (leb (largest (map depth cs)) levels) (q + sum (map size cs)) 0
-
--- and where a program does: after its last part
-abbrev pub program_end : ℕ → Program → ℕ
-program_end levels x = cond (leb (program_depth x) levels) (program_size x) 0
 
 -- of the numbers from q on that are below e, what holds of q and of those after it holds of all
 from_on : (P : ℕ → Type 0) (q e : ℕ) → P q → ((p : ℕ) → suc q ≤ p → p < e → P p) → (p : ℕ) → q ≤ p → p < e → P p
@@ -193,12 +189,6 @@ module _ (form : Form) (s : List ℕ) (test : ℕ → ℕ → Bool) where
   parts_ends (suc levels) count q e later h some_end t =
       along_ends (suc levels) (part_end form s test (parts_end form s test levels)) (part_ends levels (parts_end form s test levels) (parts_ends levels)) count q e later h some_end t
 
-  -- Where there are no parts the walk stops at once, and so at the last part
-  pub none_reached : (levels : ℕ) → parts s ≡ 0 → parts_end form s test levels 1 0 ≡ parts s
-  unfolding parts_end along part_end
-  none_reached zero z = sym z
-  none_reached (suc levels) z = rw (le-ltb 0 (parts s) (omega (arith, z))) (sym z)
-
   -- The other way round: allowed parts that stand somewhere are found to end where they do
   module _ (fine : (p : ℕ) → p < parts s → Fine p) where
     test_passes : (levels p : ℕ) (c : Part) → p < parts s → part_at es p ≡ c → accepted_by (test p) (end_within levels c p) ≡ end_within levels c p
@@ -262,35 +252,28 @@ module _ (form : Form) (s : List ℕ) (test : ℕ → ℕ → Bool) where
     parts_reached (suc levels) q cs later h some_part =
         along_reached (suc levels) (part_end form s test (parts_end form s test levels)) (part_reached levels (parts_reached levels)) q cs later h
 
-    -- a program is found to end where it does
-    pub whole_reached : (levels : ℕ) (x : Program) → program_of form s ≡ some x → parts_end form s test levels 1 0 ≡ program_end levels x
+    -- a tree that stands alone is found to end where it does
+    pub whole_reached : (levels : ℕ) (c : Part) → trees es ≡ some (c ∷ []) → parts_end form s test levels 1 0 ≡ end_within levels c 0
     unfolding Reach
-    whole_reached levels empty h = let none = sym (all_parts form s empty h) in none_reached levels none ∙ none ∙ sym (cond_same (leb 0 levels) 0)
-    whole_reached levels (rooted c) h =
+    whole_reached levels c h =
         let deepest : max (depth c) 0 ≡ depth c = omega arith in
-        let long : 0 + (size c + 0) ≡ size c = omega arith in
-        parts_reached levels 0 (c ∷ []) [] (stand_alone form s (rooted c) h) (λ z. omega arith) ∙ rw (deepest, long)
+        let long : 0 + (size c + 0) ≡ 0 + size c = omega arith in
+        parts_reached levels 0 (c ∷ []) [] h (λ z. omega arith) ∙ rw (deepest, long)
 
-  -- What a walk that ends at the last part says: a program stands, and each part of it is fine
-  pub record Whole (levels : ℕ) : Type 0 where
-    pub program : Program
-    pub is : program_of form s ≡ some program
-    pub shallow : program_depth program ≤ levels
+  -- What a walk that ends at the last part says: one tree stands, and each part of it is fine
+  pub record WholeTree (levels : ℕ) : Type 0 where
+    pub part : Part
+    pub tree : trees es ≡ some (part ∷ [])
+    pub shallow : depth part ≤ levels
     pub fine : (p : ℕ) → p < parts s → Fine p
 
-  pub whole : (levels : ℕ) → parts_end form s test levels 1 0 ≡ parts s → Whole levels
-  unfolding End trees program_of
-  whole levels h = go (eqb (parts s) 0) refl
+  pub whole : (levels : ℕ) → parts_end form s test levels 1 0 ≡ parts s → (parts s ≡ 0 → ⊥) → WholeTree levels
+  unfolding End trees
+  whole levels h some_part =
+      let w : EndAll levels 0 (parts s) 1 [] = parts_ends levels 1 0 (parts s) [] h some_part (ap trees (entries_end form s)) in
+      go w.found w.many w.stand w.shallow w.fine
     where
-      one : (ps : List Part) → length ps ≡ 1 → trees es ≡ some (ps ++ []) → largest (map depth ps) ≤ levels → ((p : ℕ) → 0 ≤ p → p < parts s → Fine p) → Whole levels
-      one [] l t d f = absurd (omega arith)
-      one (p ∷ []) l t d f = record { program = rooted p; is = rw t; shallow = omega (arith, d); fine = λ i b. f i (omega arith) b }
-      one (p ∷ q ∷ ps) l t d f = absurd (omega arith)
-
-      go : (b : Bool) → eqb (parts s) 0 ≡ b → Whole levels
-      go true z =
-          let none : parts s ≡ 0 = eqb-true (parts s) 0 z in
-          record { program = empty; is = ap (λ (xs : List Entry). follow as_program (trees xs)) (entries_past form s 0 (omega (arith, none))); shallow = omega arith; fine = λ i b. absurd (omega (arith, none)) }
-      go false z =
-          let w : EndAll levels 0 (parts s) 1 [] = parts_ends levels 1 0 (parts s) [] h (eqb-false (parts s) 0 z) (ap trees (entries_end form s)) in
-          one w.found w.many w.stand w.shallow w.fine
+      go : (ps : List Part) → length ps ≡ 1 → trees es ≡ some (ps ++ []) → largest (map depth ps) ≤ levels → ((p : ℕ) → 0 ≤ p → p < parts s → Fine p) → WholeTree levels
+      go [] l t d f = absurd (omega arith)
+      go (p ∷ []) l t d f = record { part = p; tree = t; shallow = omega (arith, d); fine = λ i b. f i (omega arith) b }
+      go (p ∷ q ∷ ps) l t d f = absurd (omega arith)

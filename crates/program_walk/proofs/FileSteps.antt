@@ -1,4 +1,4 @@
--- The steps over a file: at most two for each part, whatever the file holds; and where it forms a program, the first of the steps over that program, up to where the walk stops.
+-- The steps over a file: at most two for each part, whatever the file holds; and where it forms one tree, the first of the steps over that tree, up to where the walk stops.
 use Prim.Native.Nat.{ℕ, zero, suc, ◌+◌, ◌-◌, ◌*◌, ◌≤◌, ◌<◌}
 use native.Mathlib.Omega.{arith}
 use mathlib.Core.Path.{◌≡◌, refl, sym, ap, ◌∙◌}
@@ -12,15 +12,15 @@ use borrow.Author.Tests.{ltb-true, lt-ltb, eqb-true, eqb-false, ne_eqb}
 use Rattle.base.specs.Lists.{sum}
 use Rattle.meaning.specs.declared.Form.TheVariants.{File}
 use Rattle.meaning.specs.Sizes.{max_depth}
-use Rattle.meaning.specs.Tree.{Part, children, size, Program, empty, rooted, program_size}
-use Rattle.meaning.specs.Program.{parts, variables, clocks, entry_at, entries, entry_allowed, trees, program_of}
+use Rattle.meaning.specs.Tree.{Part, children, size}
+use Rattle.meaning.specs.Program.{parts, variables, clocks, entry_at, entries, entry_allowed, trees}
 use Rattle.meaning.proofs.Trees.{size_law}
 use Rattle.program_part.specs.declared.kinds.Children.{Children}
 use Rattle.program_part.specs.declared.kinds.Children.TheVariants.{Count, NotAllowed}
 use Rattle.program_part.specs.Children.{count_if, children_of}
 use Rattle.program_walk.specs.Walk.{TreeAt, along, end_with, any_end, part_end, parts_end}
-use Rattle.program_walk.specs.Steps.{Step, down, up, each_steps, tour, program_steps, if_ended, children_at, inside_steps, part_steps, along_steps, parts_steps, walk_steps}
-use Rattle.program_walk.proofs.Standing.{past, stands_below, stands_entry, stand_alone, all_parts}
+use Rattle.program_walk.specs.Steps.{Step, down, up, each_steps, tour, tree_steps, if_ended, children_at, inside_steps, part_steps, along_steps, parts_steps, walk_steps}
+use Rattle.program_walk.proofs.Standing.{past, stands_below, stands_entry}
 use Rattle.program_walk.proofs.TreeSteps.{steps_law, steps_each}
 
 module _ (s : List ℕ) where
@@ -205,17 +205,9 @@ module _ (s : List ℕ) where
   parts_over zero d q cs later h = none_ended (q + sum (map size cs)) [] (each_steps q d (map tour cs)) (each_steps q d (map tour cs)) refl
   parts_over (suc levels) d q cs later h = along_over levels d (part_over levels d (parts_over levels (suc d))) q cs later h
 
-  no_steps : (ms : List Step) → length ms ≤ 0 → ms ≡ []
-  no_steps [] h = refl
-  no_steps (m ∷ ms) h = absurd (omega (arith, h))
-
-  -- a program is walked over from its root on
-  pub walk_over : (x : Program) → program_of File s ≡ some x → Begins (parts_end File s any_end max_depth 1 0) (program_size x) (walk_steps s) (program_steps x)
-  unfolding walk_steps Over AllBounded
-  walk_over empty h =
-      let none : parts s ≡ 0 = sym (all_parts File s empty h) in
-      let k = parts_bounded max_depth 1 1 0 in
-      record { rest = []; is = ap (λ (ms : List Step). ms ++ []) (sym (no_steps (walk_steps s) (omega (arith, none, k.within)))); complete = λ f. refl; ends = λ f. omega (arith, none, k.not_beyond f) }
-  walk_over (rooted t) h =
-      let k = parts_over max_depth 1 0 (t ∷ []) [] (stand_alone File s (rooted t) h) in
-      record { rest = k.rest; is = sym (append-nil ((tour t).steps 0 1)) ∙ k.is; complete = k.complete; ends = λ f. omega (arith, k.ends f) }
+  -- a tree that stands alone is walked over from its root on
+  pub walk_over : (t : Part) → trees (entries File s) ≡ some (t ∷ []) → Begins (parts_end File s any_end max_depth 1 0) (size t) (walk_steps s) (tree_steps t)
+  unfolding walk_steps Over
+  walk_over t h =
+      let k = parts_over max_depth 1 0 (t ∷ []) [] h in
+      record { rest = k.rest; is = sym (append-nil (tree_steps t)) ∙ k.is; complete = k.complete; ends = λ f. omega (arith, k.ends f) }

@@ -4,7 +4,7 @@ use native.Mathlib.Omega.{arith}
 use native.Mathlib.Numerals.{add-one}
 use mathlib.Core.Path.{◌≡◌, refl, sym, ap, ◌∙◌}
 use mathlib.Core.Bool.{Bool, true, false}
-use mathlib.Core.Option.{Option, none, some, none-ne-some}
+use mathlib.Core.Option.{Option, none, some}
 use mathlib.Core.List.{List, [], ◌∷◌, ◌++◌, map}
 use lib.Dec.{ltb}
 use lib.ListN.{length, drop}
@@ -15,13 +15,13 @@ use Rattle.meaning.specs.declared.Entry.{Entry}
 use Rattle.meaning.specs.declared.Form.{Form}
 use Rattle.meaning.specs.Sizes.{length_of}
 use Rattle.meaning.specs.Kinds.{kind_of}
-use Rattle.meaning.specs.Tree.{Part, kind, children, size, Program, empty, rooted, program_size}
-use Rattle.meaning.specs.Program.{parts, entries, entry_at, take_children, trees, follow, program_of, arity_of}
+use Rattle.meaning.specs.Tree.{Part, kind, children, size}
+use Rattle.meaning.specs.Program.{parts, entries, entry_at, take_children, trees, follow, tree_of, is_tree, arity_of}
 use Rattle.program_walk.specs.Walk.{TreeAt, Walkable, first_of, part_at}
 use Rattle.program_part.specs.Readable.{Readable}
 use Rattle.meaning.proofs.Trees.{All, part_ind, size_law}
 use Rattle.meaning.proofs.Parsing.{Placed, placed}
-use Rattle.meaning.proofs.Files.{length_entries, roots, program_trees}
+use Rattle.meaning.proofs.Files.{some_part, single_part}
 use Rattle.program_walk.proofs.Entries.{entries_at, entries_past}
 
 -- What the first entry says of the part that stands there, and which parts stand after the entry
@@ -144,28 +144,17 @@ module _ (es : List Entry) (q remaining : ℕ) (left : ChildrenLeft es q remaini
         many = omega (arith, left.many ∙ ap length f.are);
       }
 
--- Trees have as many parts as they were made of
-sizes_append : (cs ds : List Part) → sum (map size (cs ++ ds)) ≡ sum (map size cs) + sum (map size ds)
-sizes_append [] ds = omega arith
-sizes_append (c ∷ cs) ds = let rest : sum (map size (cs ++ ds)) ≡ sum (map size cs) + sum (map size ds) = sizes_append cs ds in omega arith
+-- A program's tree stands alone, from the first part on
+pub record Alone (form : Form) (s : List ℕ) : Type 0 where
+  pub part : Part
+  pub tree : tree_of form s ≡ some part
+  pub is : trees (entries form s) ≡ some (part ∷ [])
 
-pub sizes_are : (xs : List Entry) (ps : List Part) → trees xs ≡ some ps → sum (map size ps) ≡ length xs
-unfolding trees
-sizes_are [] ps t = let n : ps ≡ [] = cc in rw n
-sizes_are (e ∷ xs) ps t = go (trees xs) (λ qs q. sizes_are xs qs q) refl t
-  where
-    go : (m : Option (List Part)) → ((qs : List Part) → trees xs ≡ some qs → sum (map size qs) ≡ length xs) → trees xs ≡ m → follow (take_children e) m ≡ some ps → sum (map size ps) ≡ suc (length xs)
-    go none ih q h = absurd (none-ne-some ps h)
-    go (some qs) ih q h =
-        let w : Placed e qs ps = placed e qs ps h in
-        rw (w.result, size_law w.part) (omega (arith, ih qs q, ap (λ (l : List Part). sum (map size l)) w.inner, sizes_append (children w.part) w.later))
+pub alone : (form : Form) (s : List ℕ) → is_tree (tree_of form s) ≡ true → Alone form s
+unfolding tree_of
+alone form s t =
+    let p = some_part (tree_of form s) t in
+    record { part = p.0; tree = p.1; is = single_part (trees (entries form s)) p.0 p.1 }
 
--- The tree of a program stands alone, from the first part on, and has all parts; or there are none
-module _ (form : Form) (s : List ℕ) where
-  pub stand_alone : (x : Program) → program_of form s ≡ some x → trees (entries form s) ≡ some (roots x)
-  unfolding program_of
-  stand_alone x h = program_trees (trees (entries form s)) x h
-
-  pub all_parts : (x : Program) → program_of form s ≡ some x → program_size x ≡ parts s
-  all_parts empty h = sizes_are (entries form s) [] (stand_alone empty h) ∙ length_entries form s
-  all_parts (rooted p) h = omega (arith, sizes_are (entries form s) (p ∷ []) (stand_alone (rooted p) h), length_entries form s)
+pub alone_part : (form : Form) (s : List ℕ) → Alone form s → tree_of form s ≡ some (part_at (entries form s) 0)
+alone_part form s a = a.tree ∙ ap some (sym (part_is (entries form s) 0 a.part [] a.is))

@@ -5,7 +5,7 @@ use Rattle.meaning.specs.declared.Operand.{Operand}
 use Rattle.meaning.specs.declared.Form.TheVariants.{File}
 use Rattle.meaning.specs.Sizes.{max_depth}
 use Rattle.meaning.specs.Kinds.{Kind}
-use Rattle.meaning.specs.Tree.{Part, fold, Program, by_root}
+use Rattle.meaning.specs.Tree.{Part, fold}
 use Rattle.meaning.specs.Program.{parts, variables, clocks, entry_at}
 use Rattle.meaning.specs.Table.{end_at}
 use Rattle.program_part.specs.declared.kinds.Children.{Children}
@@ -47,16 +47,13 @@ tour_of k o ts = record { parts = suc (sum (map tour_parts ts)); steps = λ p d.
 unfoldable pub tour : Part → Tour
 tour t = fold tour_of t
 
--- the root is part 0, and has depth 1; over a program of no parts (document 02, R-6) there is no step
-abbrev pub program_steps : Program → List Step
-program_steps = by_root [] (λ t. (tour t).steps 0 1)
+-- the root is part 0, and has depth 1
+abbrev pub tree_steps : Part → List Step
+tree_steps t = (tour t).steps 0 1
 
 -- "the number of parts it stands in", for each part of a tree in order: the root stands in none, and a part inside a child in one more than it does there
 unfoldable pub around : Part → List ℕ
 around t = fold (λ k o ns. 0 ∷ map suc (concat ns)) t
-
-abbrev pub program_around : Program → List ℕ
-program_around = by_root [] around
 
 -- The same by a table's ends: part p stands in each q with q < p < end of q
 unfoldable pub around_by : List ℕ → ℕ → ℕ

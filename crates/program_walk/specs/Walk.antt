@@ -5,8 +5,8 @@ use Rattle.meaning.specs.declared.Entry.{Entry}
 use Rattle.meaning.specs.declared.Form.{Form}
 use Rattle.meaning.specs.declared.Form.TheVariants.{File}
 use Rattle.meaning.specs.Sizes.{length_of}
-use Rattle.meaning.specs.Tree.{Part, goal, count_operand, Program}
-use Rattle.meaning.specs.Program.{parts, variables, clocks, trees, program_of, entry_at, entries}
+use Rattle.meaning.specs.Tree.{Part, goal, count_operand}
+use Rattle.meaning.specs.Program.{parts, variables, clocks, trees, entry_at, entries}
 use Rattle.program_part.specs.declared.kinds.Children.{Children}
 use Rattle.program_part.specs.declared.kinds.Children.TheVariants.{Count, NotAllowed}
 use Rattle.program_part.specs.Children.{children_of}
@@ -26,11 +26,11 @@ pub record Walkable (form : Form) (s : List ℕ) (p : ℕ) : Type 0 where
   pub long : length_of form (parts s) ≤ length s
   pub stands : TreeAt (entries form s) p
 
--- a program stands in a file that is as long as its parts need, and nothing else: one tree, or no parts at all (document 02, R-6)
-pub record OneProgram (s : List ℕ) : Type 0 where
+-- one tree stands in a file that is as long as its parts need, and nothing else
+pub record OneTree (s : List ℕ) : Type 0 where
   pub long : Long s
-  pub program : Program
-  pub is : program_of File s ≡ some program
+  pub part : Part
+  pub is : trees (entries File s) ≡ some (part ∷ [])
 
 abbrev pub first_of : Option (List Part) → Part
 first_of none = goal (count_operand 0)

@@ -1,5 +1,5 @@
 -- The loops over marks: what a turn, a turn that stops and the end of a loop make of a test or a count of the marks from a part on.
-use Prim.Native.Nat.{ℕ, zero, suc, ◌+◌, ◌-◌, ◌*◌, ◌<◌, ◌≤◌, min}
+use Prim.Native.Nat.{ℕ, zero, suc, ◌+◌, ◌-◌, ◌<◌, ◌≤◌, min}
 use native.Mathlib.Nat.{zero-add, add-zero, add-suc, suc-add}
 use native.Mathlib.Numerals.{add-one}
 use native.Mathlib.Omega.{arith}
@@ -8,18 +8,16 @@ use mathlib.Core.Bool.{Bool, true, false, not, ◌&&◌, and-true}
 use mathlib.Core.List.{List, [], ◌∷◌}
 use lib.ListN.{length, get_or, take, drop, drop_of_length-le}
 use lib.Seq.{drop-cons, drop-drop}
-use borrow.Author.Tests.{not-true, not-false, eq-eqb, eqb-true, ne_eqb}
-use Rattle.base.specs.Lists.{all, any, flag, bytes_at}
-use Rattle.base.proofs.Lists.{and_left, and_right}
+use borrow.Author.Tests.{not-true, not-false, eq-eqb, ne_eqb}
+use Rattle.base.specs.Lists.{any, flag, bytes_at}
 use Rattle.base.proofs.Stores.{length_bytes, get_or_bytes}
 use Rattle.meaning.specs.declared.Entry.{Entry}
 use Rattle.meaning.specs.declared.Form.TheVariants.{Table}
-use Rattle.meaning.specs.Sizes.{max_parts, max_variables, max_clocks, time_width}
 use Rattle.meaning.specs.Kinds.{kind_of}
-use Rattle.meaning.specs.Program.{parts, variables, clocks, entry_at}
+use Rattle.meaning.specs.Program.{parts, entry_at}
 use Rattle.meaning.specs.Table.{end_at, parent_at, Inside, inside_of, is_table}
-use Rattle.meaning.specs.Record.{estimate_place, started_place, starts_place, marks_place, record_length, phase_of, marks_in, finished, is_mark, is_zero, rest_zero, marked_children, children_allowed, part_allowed, parts_allowed, root_allowed}
-use Rattle.meaning.proofs.Tables.{inside}
+use Rattle.meaning.specs.Record.{marks_place, record_length, phase_of, marks_in, finished, is_mark, marked_children, children_allowed, part_allowed, parts_allowed, root_allowed}
+use Rattle.meaning.proofs.Tables.{inside, root_there}
 use Rattle.meaning.proofs.Nesting.{nested, inner_part, closed_inside}
 use Rattle.program_part.specs.Readable.{Readable}
 use Rattle.program_part.proofs.Places.{row_readable}
@@ -202,20 +200,6 @@ module _ (t r : List ℕ) (phase n p : ℕ) (n-is : n ≡ parts t) where
   unfolding parts_allowed
   parts_allowed_end x h i = rw (drop_of_length-le (marks_in t r) {i = p} (omega (arith, length_bytes r marks_place (parts t)))) at i
 
--- what stands at the root's place is the root's mark, or 0 where there are no parts
-root_byte : (t r : List ℕ) → rest_zero t r ≡ true → get_or r (marks_place + 0) 0 ≡ get_or (marks_in t r) 0 0
-unfolding rest_zero
-root_byte t r h =
-    let values : Bool = all is_zero (bytes_at r (estimate_place + variables t) (max_variables - variables t)) in
-    let flags : Bool = all is_zero (bytes_at r (started_place + clocks t) (max_clocks - clocks t)) in
-    let starts : Bool = all is_zero (bytes_at r (starts_place + time_width * clocks t) (time_width * (max_clocks - clocks t))) in
-    let marks : Bool = all is_zero (bytes_at r (marks_place + parts t) (max_parts - parts t)) in
-    go (parts t) (and_right starts marks (and_right flags (starts && marks) (and_right values (flags && (starts && marks)) h)))
-  where
-    go : (n : ℕ) → all is_zero (bytes_at r (marks_place + n) (max_parts - n)) ≡ true → get_or r (marks_place + 0) 0 ≡ get_or (bytes_at r marks_place n) 0 0
-    go zero z = eqb-true (get_or r (marks_place + 0) 0) 0 (and_left (is_zero (get_or r (marks_place + 0) 0)) (all is_zero (bytes_at r (marks_place + 1) (max_parts - 1))) z)
-    go (suc n) z = refl
-
 -- the root
 module _ (t r : List ℕ) (phase : ℕ) (phase_is : phase ≡ phase_of r) where
   pub root_over : (n : ℕ) (x : Bool) → n ≡ parts t → phase ≡ finished → x ≡ any is_mark (bytes_at r (marks_place + 0) (n - 0)) → not x ≡ root_allowed (phase_of r) (marks_in t r)
@@ -224,6 +208,6 @@ module _ (t r : List ℕ) (phase : ℕ) (phase_is : phase ≡ phase_of r) where
       let k : n - 0 ≡ parts t = omega arith in
       rw (← phase_is, f, x-is, k)
 
-  pub root_runs : (b : Bool) → rest_zero t r ≡ true → (phase ≡ finished → ⊥) → b ≡ is_mark (get_or r (marks_place + 0) 0) → b ≡ root_allowed (phase_of r) (marks_in t r)
+  pub root_runs : (b : Bool) → is_table t ≡ true → (phase ≡ finished → ⊥) → b ≡ is_mark (get_or r (marks_place + 0) 0) → b ≡ root_allowed (phase_of r) (marks_in t r)
   unfolding root_allowed
-  root_runs b rest f b-is = rw (← phase_is, ne_eqb phase finished f, b-is, root_byte t r rest)
+  root_runs b table f b-is = rw (← phase_is, ne_eqb phase finished f, b-is, get_or_bytes r marks_place (parts t) 0 (root_there t table))

@@ -6,7 +6,6 @@ use mathlib.Core.List.{List}
 use lib.ListN.{length}
 use borrow.Author.Tests.{le-leb, lt-leb, not-true, not-false, ne_eqb}
 use Rattle.base.specs.Lists.{first_failing}
-use Rattle.base.proofs.Lists.{and_left}
 use Rattle.meaning.specs.Table.{is_table}
 use Rattle.meaning.specs.Record.{record_length, phase_of, marks_in, finished, rest_zero, values_allowed, clocks_allowed, root_allowed, parts_allowed, record_allowed}
 use Rattle.meaning.specs.Answers.{notATable, recordNotAllowed, runFinished}
@@ -45,10 +44,6 @@ module _ (t r : List ℕ) (a b c : Bool) (long : record_length ≤ length r) (a-
       go true false c x f = refl
       go true true false x f = refl
       go true true true x f = absurd (true≢false (sym f))
-
-  -- the code that looks at the marks knows that what is beyond them is 0
-  pub fields_rest : not (a && (b && c)) ≡ false → rest_zero t r ≡ true
-  fields_rest h = sym a-is ∙ and_left a (b && c) (not-false (a && (b && c)) h)
 
   pub fields_pass : not (a && (b && c)) ≡ false → (d e : Bool) → d ≡ root_allowed (phase_of r) (marks_in t r) → e ≡ parts_allowed t (phase_of r) 0 (marks_in t r) → (d && e) ≡ record_allowed t r
   unfolding record_allowed

@@ -4,7 +4,7 @@ ghost use Rattle.base.specs.Lists.{any, flag, bytes_at};
 ghost use Rattle.meaning.specs.Kinds.{kind_of};
 ghost use Rattle.meaning.specs.Program.{parts};
 ghost use Rattle.meaning.specs.Table.{is_table};
-ghost use Rattle.meaning.specs.Record.{marks_place, record_length, phase_of, marks_in, is_mark, rest_zero, marked_children, children_allowed, part_allowed, parts_allowed, root_allowed};
+ghost use Rattle.meaning.specs.Record.{marks_place, record_length, phase_of, marks_in, is_mark, marked_children, children_allowed, part_allowed, parts_allowed, root_allowed};
 ghost use Rattle.run_allowed.specs.Inner.{inner_marks, part_after};
 
 use meaning::kinds::{CHOICE, GOAL, MAINTAIN, PAR, REPEAT, SEQ, START, WAIT};
@@ -113,12 +113,10 @@ pub fn parts_allowed(t: &[u8], r: &[u8]) -> bool
     true
 }
 
-// No mark is set once the run is over, and until then the root is marked. Where there are no parts, what stands at the
-// root's place is beyond them and 0, so that the run is over.
+// No mark is set once the run is over, and until then the root is marked.
 pub fn root_allowed(t: &[u8], r: &[u8]) -> bool
     requires t_value { is_table t.now ≡ true }
     requires record_length_in_bounds { record_length ≤ length r.now }
-    requires r_value { rest_zero t.now r.now ≡ true }
     ensures { result ≡ root_allowed (phase_of r.now) (marks_in t.now r.now) }
 {
     if phase(r) == FINISHED {

@@ -1,14 +1,13 @@
 // The operation that begins a run: its refusals (9, 13, 8), and a record in which the root, and what begins with it, is
-// marked, or which is finished where there is no root.
+// marked.
 ghost use Rattle.std.specs.Prelude.{◌≡◌, length};
 ghost use Rattle.meaning.specs.Cycle.{begin_refusal, begun_into};
 ghost use Rattle.meaning.specs.Answers.{answerNumber};
 ghost use Rattle.meaning.specs.Operations.{Begun};
 
-use base::{copy_inside, fill, store};
-use meaning::sizes::{ESTIMATE_PLACE, FINISHED, MARKS_PLACE, PHASE_PLACE, RECORD};
+use base::{copy_inside, fill};
+use meaning::sizes::{ESTIMATE_PLACE, MARKS_PLACE, RECORD};
 use meaning::{Answer, Refusal};
-use program_part::layout::parts;
 use program_table::is_table;
 use run_allowed::values::estimate_allowed;
 use run_initialise::initialise;
@@ -30,17 +29,12 @@ pub fn begin(t: &[u8], est: &[u8], r: &mut [u8]) -> Answer
     Answer::Done
 }
 
-// Writes the record of a run that begins: what is neither estimate nor mark is 0 in it, but that a run of no parts is
-// over at once.
+// Writes the record of a run that begins: what is neither estimate nor mark is 0 in it.
 fn write_fresh_record(t: &[u8], est: &[u8], r: &mut [u8])
     requires { begin_refusal t.now est.now (length r.old) ≡ 0 }
     ensures { r.new ≡ begun_into t.now est.now r.old }
 {
     fill(r, 0, RECORD, 0);
     copy_inside(est, 0, r, ESTIMATE_PLACE, est.len());
-    if parts(t) == 0 {
-        store(r, PHASE_PLACE, FINISHED);
-    } else {
-        initialise(t, r, MARKS_PLACE, 0);
-    }
+    initialise(t, r, MARKS_PLACE, 0);
 }

@@ -1,5 +1,5 @@
 -- A settling's answers: one law for each place where the code gives one.
-use Prim.Native.Nat.{ℕ, ◌+◌, ◌<◌, ◌≤◌}
+use Prim.Native.Nat.{ℕ, ◌+◌, ◌≤◌}
 use native.Mathlib.Omega.{arith}
 use mathlib.Core.Path.{◌≡◌, refl, sym, ap, ◌∙◌}
 use mathlib.Core.Bool.{Bool, true, false, cond, not, ◌||◌, not-not}
@@ -7,7 +7,7 @@ use mathlib.Core.List.{List, [], ◌∷◌, ◌++◌}
 use lib.Dec.{eqb}
 use lib.ListN.{length, get_or}
 use lib.Seq.{sets}
-use borrow.Author.Tests.{eqb-false, ne_eqb, not-true, not-false}
+use borrow.Author.Tests.{ne_eqb, not-true, not-false}
 use Rattle.base.specs.Lists.{first_failing, bytes_at}
 use Rattle.base.proofs.Lists.{Passed, none_fails}
 use Rattle.base.proofs.Stores.{bytes_sets, get_or_bytes, length_bytes}
@@ -17,19 +17,16 @@ use Rattle.meaning.specs.declared.Answer.TheVariants.{Done, Refused}
 use Rattle.meaning.specs.Sizes.{max_parts}
 use Rattle.meaning.specs.Program.{parts, variables}
 use Rattle.meaning.specs.Table.{is_table}
-use Rattle.meaning.specs.Record.{record_length, phase_of, last_time, marks_place, marks_in, waiting, finished, record_allowed}
+use Rattle.meaning.specs.Record.{record_length, phase_of, last_time, marks_place, marks_in, waiting}
 use Rattle.meaning.specs.Cycle.{estimate_allowed, situation, settled_marks, root_ended, works_from, settle_refusal, settled_record, settled_into}
 use Rattle.meaning.specs.Answers.{refusalNumber, answerNumber, answered, nothingAtWork, wrongPhase, estimateNotAllowed}
 use Rattle.meaning.specs.Operations.{Settled}
 use Rattle.meaning.proofs.Answers.{not-refused, is-refused, refused-before, left_open}
-use Rattle.meaning.proofs.Records.{length_settled, allowed_long, some_parts, estimate_fits}
+use Rattle.meaning.proofs.Records.{length_settled, allowed_long, estimate_fits}
+use Rattle.meaning.proofs.Tables.{root_there}
 use Rattle.program_part.proofs.Places.{parts_fit}
 use Rattle.run_allowed.specs.Running.{run_tests}
 use Rattle.run_settle.specs.Answering.{later_tests, early_tests, early_refusal, Judged}
-
--- a run that goes on has parts
-running_parts : (t r : List ℕ) → record_allowed t r ≡ true → not (eqb (phase_of r) finished) ≡ true → 0 < parts t
-running_parts t r allowed goes_on_lem = some_parts t r allowed (eqb-false (phase_of r) finished (not-true (eqb (phase_of r) finished) goes_on_lem))
 
 module _ (t r est : List ℕ) where
   -- The early refusals: those of every run that does not go on, then 11 and 13
@@ -77,9 +74,6 @@ module _ (t r est : List ℕ) where
     pub settling_is_table : is_table t ≡ true
     settling_is_table = passes.0
 
-    settling_has_parts : 0 < parts t
-    settling_has_parts = running_parts t r passes.1.0 passes.1.1.0
-
     pub is_long : record_length ≤ length r
     is_long = allowed_long t r passes.1.0
 
@@ -100,7 +94,7 @@ module _ (t r est : List ℕ) where
           rw New-is (bytes_sets (settled_marks t r est) m 0 (parts t) l (omega (arith, parts_fit t settling_is_table)))
 
       root_is : get_or (settled_marks t r est) 0 0 ≡ x
-      root_is = sym (x-is ∙ sym (get_or_bytes new 0 (parts t) 0 settling_has_parts) ∙ ap (λ l. get_or l 0 0) marks_there)
+      root_is = sym (x-is ∙ sym (get_or_bytes new 0 (parts t) 0 (root_there t settling_is_table)) ∙ ap (λ l. get_or l 0 0) marks_there)
 
       late : (b : Bool) → (eqb x 0 || w) ≡ b → settle_refusal t r est ≡ cond b 0 15
       late b e = then_15 ∙ rw (root_is, not-not (eqb x 0), ← marks_there, ← w-is, e)
@@ -124,14 +118,14 @@ module _ (t r est : List ℕ) where
     none = not-refused a (settle_refusal t r est) j.answer_is done
 
     -- what writing the record asks
-    pub to_commit : (is_table t ≡ true) × ((0 < parts t) × ((record_length ≤ length r) × ((estimate_allowed (variables t) est ≡ true) × (bytes_at m 0 (parts t) ≡ settled_marks t r est))))
+    pub to_commit : (is_table t ≡ true) × ((record_length ≤ length r) × ((estimate_allowed (variables t) est ≡ true) × (bytes_at m 0 (parts t) ≡ settled_marks t r est)))
     unfolding settle_refusal
     to_commit =
         let passed = none_fails (early_tests t r est ++ last_test) refl none in
-        (passed.0, (running_parts t r passed.1.0 passed.1.1.0, (allowed_long t r passed.1.0, (passed.1.1.1.1.0, j.marks_are none))))
+        (passed.0, (allowed_long t r passed.1.0, (passed.1.1.1.1.0, j.marks_are none)))
 
     root_mark : get_or (settled_marks t r est) 0 0 ≡ get_or m 0 0
-    root_mark = sym (sym (get_or_bytes m 0 (parts t) 0 to_commit.1.0) ∙ ap (λ l. get_or l 0 0) (j.marks_are none))
+    root_mark = sym (sym (get_or_bytes m 0 (parts t) 0 (root_there t to_commit.0)) ∙ ap (λ l. get_or l 0 0) (j.marks_are none))
 
     module _ (new : List ℕ) (x : ℕ) (New-is : new ≡ settled_record t r est) (x-is : x ≡ get_or m 0 0) where
       pub settled_finished : x ≡ 0 → Settled t r est (answered + 1) new

@@ -14,16 +14,16 @@ use Rattle.meaning.specs.Sizes.{max_variables, time_width, little_endian}
 use Rattle.meaning.specs.Program.{parts, variables}
 use Rattle.meaning.specs.Table.{is_table}
 use Rattle.meaning.specs.Record.{record_length, estimate_place, started_place, starts_place, marks_place, waiting, finished}
-use Rattle.meaning.specs.Cycle.{estimate_allowed, phase_with, settled_marks, settled_flags, settled_starts, settled_record}
+use Rattle.meaning.specs.Cycle.{estimate_allowed, root_ended, settled_marks, settled_flags, settled_starts, settled_record}
 use Rattle.program_part.proofs.Places.{parts_fit}
 use Rattle.meaning.proofs.Records.{still_long, estimate_fits}
-use Rattle.meaning.proofs.Tables.{table_held}
+use Rattle.meaning.proofs.Tables.{table_held, root_there}
 
 -- the phase, by the root's mark
-pub phase_over : (m : List ℕ) (x : ℕ) → x ≡ get_or m 0 0 → x ≡ 0 → finished ≡ phase_with m
+pub phase_over : (m : List ℕ) (x : ℕ) → x ≡ get_or m 0 0 → x ≡ 0 → finished ≡ cond (root_ended m) finished waiting
 phase_over m x x-is z = rw (← x-is, z)
 
-pub phase_goes : (m : List ℕ) (x : ℕ) → x ≡ get_or m 0 0 → (x ≡ 0 → ⊥) → waiting ≡ phase_with m
+pub phase_goes : (m : List ℕ) (x : ℕ) → x ≡ get_or m 0 0 → (x ≡ 0 → ⊥) → waiting ≡ cond (root_ended m) finished waiting
 phase_goes m x x-is n = rw (← x-is, ne_eqb x 0 n)
 
 -- phase and estimate stand before the clocks' flags and starts
@@ -34,16 +34,16 @@ moved r es fs ss x l =
     ∙ sets_swap (sets (set r 0 x) started_place fs) estimate_place starts_place es ss (omega arith)
     ∙ ap (λ a. sets a starts_place ss) (sets_swap (set r 0 x) estimate_place started_place es fs (omega arith))
 
-module _ (t r est m : List ℕ) (table : is_table t ≡ true) (some : 0 < parts t) (e : estimate_allowed (variables t) est ≡ true) (m-is : bytes_at m 0 (parts t) ≡ settled_marks t r est) where
+module _ (t r est m : List ℕ) (table : is_table t ≡ true) (e : estimate_allowed (variables t) est ≡ true) (m-is : bytes_at m 0 (parts t) ≡ settled_marks t r est) where
   root_same : get_or m 0 0 ≡ get_or (settled_marks t r est) 0 0
-  root_same = sym (get_or_bytes m 0 (parts t) 0 some) ∙ ap (λ a. get_or a 0 0) m-is
+  root_same = sym (get_or_bytes m 0 (parts t) 0 (root_there t table)) ∙ ap (λ a. get_or a 0 0) m-is
 
   estimate_whole : bytes_at est 0 (variables t) ≡ est
   estimate_whole = rw (← (estimate_fits t est e).0) (bytes_all est)
 
   pub record_committed : (r₁ r₂ r₃ r₄ : List ℕ) (x v v₁ n n₁ : ℕ)
       → r₁ ≡ sets (sets r started_place (settled_flags t r)) starts_place (flat (little_endian time_width) (settled_starts t r))
-      → x ≡ phase_with m
+      → x ≡ cond (root_ended m) finished waiting
       → r₂ ≡ set r₁ 0 x
       → v₁ ≡ variables t
       → v ≡ v₁
@@ -55,7 +55,7 @@ module _ (t r est m : List ℕ) (table : is_table t ≡ true) (some : 0 < parts 
   record_committed r₁ r₂ r₃ r₄ x v v₁ n n₁ r₁-is x-is r₂-is v₁_is v-is r₃-is n₁-is n-is r₄-is =
       let fs : List ℕ = settled_flags t r in
       let ss : List ℕ = flat (little_endian time_width) (settled_starts t r) in
-      let y : ℕ = phase_with (settled_marks t r est) in
+      let y : ℕ = cond (root_ended (settled_marks t r est)) finished waiting in
       let x-same : x ≡ y = x-is ∙ ap (λ a. cond (not (not (eqb a 0))) finished waiting) root_same in
       let third : r₃ ≡ sets (sets (sets (set r 0 y) estimate_place est) started_place fs) starts_place ss =
       r₃-is ∙ rw (v-is ∙ v₁_is, estimate_whole, r₂-is, r₁-is, x-same) (moved r est fs ss y (omega (arith, (estimate_fits t est e).0, (table_held t table).1.within.variables_fit)))

@@ -1,13 +1,13 @@
 // The operation that settles a cycle: its refusals (9, 10, 14, 11, 13, 15), and the record written.
 pub mod works;
 
-ghost use Rattle.std.specs.Prelude.{◌≡◌, true, ◌<◌, ◌≤◌, length};
+ghost use Rattle.std.specs.Prelude.{◌≡◌, true, cond, ◌≤◌, length};
 ghost use Rattle.base.specs.Lists.{bytes_at};
 ghost use Rattle.meaning.specs.Sizes.{max_parts};
 ghost use Rattle.meaning.specs.Program.{parts, variables};
 ghost use Rattle.meaning.specs.Table.{is_table};
-ghost use Rattle.meaning.specs.Record.{record_length};
-ghost use Rattle.meaning.specs.Cycle.{estimate_allowed, phase_with, settled_marks, settled_record};
+ghost use Rattle.meaning.specs.Record.{record_length, waiting, finished};
+ghost use Rattle.meaning.specs.Cycle.{estimate_allowed, root_ended, settled_marks, settled_record};
 ghost use Rattle.meaning.specs.Answers.{answerNumber, settleNumber};
 ghost use Rattle.meaning.specs.Operations.{Settled};
 ghost use Rattle.run_settle.specs.Answering.{early_refusal, Judged};
@@ -61,7 +61,7 @@ fn judge(t: &[u8], r: &[u8], est: &[u8], m: &mut [u8]) -> Answer
 
 // The phase that follows from the marks m: the run is over where the root is not marked any more.
 fn phase_after(m: &[u8]) -> u8
-    ensures { result ≡ phase_with m.now }
+    ensures { result ≡ cond (root_ended m.now) finished waiting }
 {
     if at(m, 0) == UNMARKED {
         FINISHED
@@ -74,7 +74,6 @@ fn phase_after(m: &[u8]) -> u8
 // the record has before it takes the new ones.
 fn commit(t: &[u8], r: &mut [u8], est: &[u8], m: &[u8])
     requires t_value { is_table t.now ≡ true }
-    requires t_nonzero { 0 < parts t.now }
     requires record_length_in_bounds { record_length ≤ length r.old }
     requires t_in_bounds { parts t.now ≤ length m.now }
     requires est_value { estimate_allowed (variables t.now) est.now ≡ true }

@@ -297,7 +297,7 @@ module _ (t : List ℕ) (h : is_table t ≡ true) (sit : Situation) (ms : List �
         l = number_fits p own
 
         not_root : (p ≡ 0) ⊎ (0 < p) → 0 < p
-        not_root (inl e) = absurd (i.2 (sym i.1 ∙ rw e (root_next t h (omega (arith, l)))))
+        not_root (inl e) = absurd (i.2 (sym i.1 ∙ rw e (root_next t h)))
         not_root (inr g) = g
 
         next : (next_at t p ≡ no_part) ⊎ ((next_at t p ≡ p) ⊎ Later t p) → ⊥

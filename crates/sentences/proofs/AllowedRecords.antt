@@ -2,29 +2,29 @@
 use Prim.Native.Nat.{ℕ, zero, suc, ◌+◌, ◌-◌, ◌*◌, ◌≤◌, ◌<◌, min}
 use native.Mathlib.Nat.{zero-add, add-zero, not-suc-le-zero, le_of_suc-le-suc, eq-or-lt_of_le, eq-zero-or-pos}
 use native.Mathlib.Omega.{arith}
-use mathlib.Core.Path.{◌≡◌, refl, sym, ◌∙◌}
+use mathlib.Core.Path.{◌≡◌, refl, sym, ◌∙◌, subst}
 use mathlib.Core.Logic.Iff
 use mathlib.Core.Logic.{◌↔◌, ◌≢◌, ◌⊎◌, inl, inr}
 use mathlib.Core.Bool.{Bool, true, false, cond, not, ◌&&◌, ◌||◌, and-eq-true_iff, false≢true}
-use mathlib.Core.List.{List, [], ◌∷◌}
+use mathlib.Core.List.{List, [], ◌∷◌, map}
 use lib.Dec.{eqb, leb}
 use lib.ListN.{length, get_or, take, drop, length-take, length-drop}
 use lib.Seq.{get_or-take, get_or-drop}
-use borrow.Author.Tests.{ne_eqb}
-use Rattle.base.specs.Lists.{all, any, flag, bytes_at}
+use borrow.Author.Tests.{leb-true, leb-false, ne_eqb}
+use Rattle.base.specs.Lists.{sum, all, any, flag, bytes_at}
 use Rattle.base.proofs.Facts.{both, either, at_most, equal, by_number, unless, all_facts, all_below, get_or_inside}
 use Rattle.base.proofs.Lists.{and_left, and_right}
 use Rattle.base.proofs.Stores.{length_bytes, get_or_bytes}
-use Rattle.meaning.specs.Sizes.{max_parts, max_variables, max_clocks, max_value, unknown_value, time_width}
+use Rattle.meaning.specs.Sizes.{max_parts, max_variables, max_clocks, max_value, unknown_value, time_width, no_part}
 use Rattle.meaning.specs.Kinds.{Kind, UNKNOWN, GOAL, START, WAIT, SEQ, PAR, MAINTAIN, CHOICE, REPEAT}
 use Rattle.meaning.specs.Program.{parts, variables, clocks}
 use Rattle.meaning.specs.Table.{kind_at, parent_at, end_at, inside_of, is_table}
 use Rattle.meaning.specs.Record.{estimate_place, started_place, starts_place, marks_place, record_length, phase_of, last_time, estimate_in, started_in, starts_in, marks_in, offered, finished, is_mark, is_zero, rest_zero, estimate_byte_allowed, values_allowed, clock_allowed, clocks_allowed, marked_children, children_allowed, part_allowed, parts_allowed, root_allowed, record_allowed}
-use Rattle.meaning.specs.Tree.{Part, goal, start, wait, seq, par, maintain, choice, repeat, kind}
+use Rattle.meaning.specs.Tree.{Part, goal, start, wait, seq, par, maintain, choice, repeat, kind, children, size}
 use Rattle.sentences.specs.Allowed.{PartMarked, PartUnmarked, Child, MarkedChild, SomeChild, NoTwoChildren, OneChild, EstimateByte, AllowedRecord}
-use Rattle.meaning.proofs.Trees.{size_law}
-use Rattle.meaning.proofs.Lies.{Lies, own_row, own_kind, children_lie, first_lies}
-use Rattle.meaning.proofs.Nesting.{At, at}
+use Rattle.meaning.proofs.Trees.{All, part_ind, size_law}
+use Rattle.meaning.proofs.Tables.{table_held}
+use Rattle.meaning.proofs.Lies.{Lies, LieIn, own_row, own_kind, children_lie, first_lies, others_lie, root_lies}
 
 -- a byte is one of an estimate where it is a value or unknown
 pub estimate_byte : (x : ℕ) → (estimate_byte_allowed x ≡ true) ↔ EstimateByte x
@@ -436,13 +436,42 @@ parts_allowed_lem t r h =
     let b = and_right (rest_zero t r) second (and_right (leb record_length (length r)) (rest_zero t r && second) h) in
     and_right (root_allowed (phase_of r) (marks_in t r)) last (and_right (clocks_allowed t r) fourth (and_right (values_allowed t r) third b))
 
+-- each part of a table lies there
+abbrev Lying : List ℕ → ℕ → Type 0
+Lying t n = (p : Part) × (q : ℕ) × (x : ℕ) × Lies t p n q x
+
 module _ (t : List ℕ) where
+  AllLying : Part → Type 0
+  AllLying p = (n q x : ℕ) → Lies t p n q x → (i : ℕ) → n ≤ i → i < n + size p → Lying t i
+
+  lying_among : (ps : List Part) → All AllLying ps → (k : Kind) (q n : ℕ) → LieIn t k q n ps → (i : ℕ) → n ≤ i → i < n + sum (map size ps) → Lying t i
+  unfolding AllLying
+  lying_among [] h k q n l i a b = absurd (omega arith)
+  lying_among (p ∷ ps) h k q n l i a b = go (leb (n + size p) i) refl (λ c. lying_among ps h.1 k q (n + size p) (others_lie l) i c (omega arith))
+    where
+      go : (later : Bool) → leb (n + size p) i ≡ later → (n + size p ≤ i → Lying t i) → Lying t i
+      go true e ih = ih (leb-true (n + size p) i e)
+      go false e ih = h.0 n q _ (first_lies l) i a (leb-false (n + size p) i e)
+
+  all_lying : (p : Part) → AllLying p
+  unfolding AllLying
+  all_lying = part_ind AllLying (λ p h n q x l i a b. go p h n q x l i b (eq-or-lt_of_le a))
+    where
+      go : (p : Part) → All AllLying (children p) → (n q x : ℕ) → Lies t p n q x → (i : ℕ) → i < n + size p → (n ≡ i) ⊎ (n < i) → Lying t i
+      go p h n q x l i b (inl e) = rw (← e) (p, q, x, l)
+      go p h n q x l i b (inr c) = lying_among (children p) h (kind p) n (suc n) (children_lie l) i c (omega (arith, size_law p))
+
   -- part p is a MAINTAIN: the part after it is its child and has all that stands inside it
   module _ (table : is_table t ≡ true) (p : ℕ) (l : p < parts t) (e : kind_at t p ≡ MAINTAIN) where
+    lies_at : Lying t p
+    unfolding AllLying
+    lies_at =
+        let x = table_held t table in
+        let root = subst (λ s. Lies s x.0 0 no_part no_part) (sym x.2) (root_lies (variables t) (clocks t) x.0 x.1.within) in
+        all_lying x.0 0 no_part no_part root p (omega arith) (omega (arith, x.1.parts_are))
+
     maintain_child : Child t p (suc p) × (end_at t (suc p) ≡ end_at t p)
-    maintain_child =
-        let a : At t p = at t table p l in
-        go a.part a.parent a.next a.lies (sym (own_kind a.lies) ∙ e)
+    maintain_child = go lies_at.0 lies_at.1 lies_at.2 lies_at.3 (sym (own_kind lies_at.3) ∙ e)
       where
         go : (y : Part) (q x : ℕ) → Lies t y p q x → kind y ≡ MAINTAIN → Child t p (suc p) × (end_at t (suc p) ≡ end_at t p)
         go (goal o) q x h k = absurd (false≢true cc)

@@ -5,8 +5,7 @@ use native.Mathlib.Omega.{arith}
 use mathlib.Core.Path.{◌≡◌, refl, sym, ap, subst, ◌∙◌}
 use mathlib.Core.Bool.{Bool, true, false, cond, ◌&&◌, and-true, and-false, false≢true}
 use mathlib.Core.Logic.{◌↔◌, ◌⊎◌, inl, inr}
-use mathlib.Core.List.{List, [], ◌++◌}
-use lib.Dec.{eqb}
+use mathlib.Core.List.{List, ◌++◌}
 use lib.ListN.{length, get_or, drop, replicate}
 use lib.Seq.{drop-append_seam}
 use borrow.Author.Tests.{eqb-true, eq-eqb}
@@ -15,10 +14,10 @@ use Rattle.base.proofs.Lists.{and_left, and_right}
 use Rattle.meaning.specs.Kinds.{Kind, UNKNOWN, GOAL, START, WAIT, SEQ, PAR, MAINTAIN, CHOICE, REPEAT}
 use Rattle.meaning.specs.Program.{parts, clocks}
 use Rattle.meaning.specs.Table.{kind_at, end_at, parent_at, Inside, inside_of, is_table}
-use Rattle.meaning.specs.Record.{record_length, waiting, finished, is_mark, record_bytes}
-use Rattle.meaning.specs.Cycle.{begins_in, begins, initial_marks_from, initial_marks, phase_with, marks_begun, begin_refusal, begun_into}
+use Rattle.meaning.specs.Record.{record_length, waiting, is_mark, record_bytes}
+use Rattle.meaning.specs.Cycle.{begins_in, begins, initial_marks_from, initial_marks, begin_refusal, begun_into}
 use Rattle.meaning.proofs.Tables.{inside as within}
-use Rattle.meaning.proofs.Records.{Fits, length_record, phase_read, time_read, estimate_read, started_read, starts_read, marks_read, length_initial, begun_fits, begun_bytes}
+use Rattle.meaning.proofs.Records.{Fits, length_record, phase_read, time_read, estimate_read, started_read, starts_read, marks_read, length_initial, length_root, begin_tests_lem, begun_fits, begun_bytes}
 use Rattle.sentences.specs.Fields.{Fields}
 use Rattle.sentences.specs.Allowed.{Child}
 use Rattle.sentences.specs.Stepping.{BegunWith, itself, seq_first, par_all, maintain_child, repeat_child}
@@ -234,31 +233,23 @@ module _ (t : List ℕ) (table : is_table t ≡ true) (q : ℕ) where
   pub initialised_begun : q < end_at t q → (p : ℕ) → q ≤ p → p < end_at t q → (is_mark (get_or (initial_marks t q) (p - q) 0) ≡ true) ↔ BegunWith t q p
   initialised_begun a p from before = (marked_begun a (suc p) p (omega arith) from before, begun_marked a)
 
--- a run begins in phase 0, and where there are no parts in phase 2
-pub first_phase : (t : List ℕ) → phase_with (marks_begun t) ≡ cond (eqb (parts t) 0) finished waiting
-unfolding marks_begun initial_marks
-first_phase t = go (eqb (parts t) 0)
-  where
-    go : (b : Bool) → phase_with (cond b [] (initial_marks t 0)) ≡ cond b finished waiting
-    go true = refl
-    go false = refl
-
 module _ (t est r : List ℕ) where
   -- "Beginning a run: phase 0, last time 0, no clock started, the estimate stored, the root initialised"; "A longer buffer's further bytes are untouched"
   pub begun_record : begin_refusal t est (length r) ≡ 0
-      → Fields t (begun_into t est r) (phase_with (marks_begun t)) 0 est (replicate (clocks t) 0) (replicate (clocks t) 0) (marks_begun t) (drop record_length r)
+      → Fields t (begun_into t est r) waiting 0 est (replicate (clocks t) 0) (replicate (clocks t) 0) (initial_marks t 0) (drop record_length r)
   begun_record h =
-      let fits : Fits t 0 est (replicate (clocks t) 0) (replicate (clocks t) 0) (marks_begun t) = begun_fits t est (length r) h in
+      let table : is_table t ≡ true = (begin_tests_lem t est (length r) h).0 in
+      let whole : length (initial_marks t 0) ≡ parts t = length_root t table in
+      let fits : Fits t 0 est (replicate (clocks t) 0) (replicate (clocks t) 0) (initial_marks t 0) = begun_fits t est (length r) h whole in
       let more : List ℕ = drop record_length r in
-      let phase : ℕ = phase_with (marks_begun t) in
-      let bytes : List ℕ = record_bytes phase 0 est (replicate (clocks t) 0) (replicate (clocks t) 0) (marks_begun t) in
-      subst (λ (b : List ℕ). Fields t b phase 0 est (replicate (clocks t) 0) (replicate (clocks t) 0) (marks_begun t) more) (sym (begun_bytes t est r h))
+      let bytes : List ℕ = record_bytes waiting 0 est (replicate (clocks t) 0) (replicate (clocks t) 0) (initial_marks t 0) in
+      subst (λ (b : List ℕ). Fields t b waiting 0 est (replicate (clocks t) 0) (replicate (clocks t) 0) (initial_marks t 0) more) (sym (begun_bytes t est r h whole))
       (record {
-        phase_is = phase_read fits phase more;
-        time_is = time_read fits phase more;
-        estimate_is = estimate_read fits phase more;
-        started_is = started_read fits phase more;
-        starts_are = starts_read fits phase more;
-        marks_are = marks_read fits phase more;
-        more_is = ap (λ (n : ℕ). drop n (bytes ++ more)) (sym (length_record fits.shape phase 0)) ∙ drop-append_seam bytes more;
+        phase_is = phase_read fits waiting more;
+        time_is = time_read fits waiting more;
+        estimate_is = estimate_read fits waiting more;
+        started_is = started_read fits waiting more;
+        starts_are = starts_read fits waiting more;
+        marks_are = marks_read fits waiting more;
+        more_is = ap (λ (n : ℕ). drop n (bytes ++ more)) (sym (length_record fits.shape waiting 0)) ∙ drop-append_seam bytes more;
       })

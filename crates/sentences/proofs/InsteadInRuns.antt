@@ -42,7 +42,7 @@ module _ (t r : List ℕ) (table : is_table t ≡ true) where
     where
       go : (u ≡ 0) ⊎ (0 < u) → Inside t p u
       go (inl z) =
-          let own : parent_at t u ≡ no_part = rw z (root_parent t table (omega (arith, l))) in
+          let own : parent_at t u ≡ no_part = rw z (root_parent t table) in
           absurd (omega (arith, own, (own_row (at t table p l).lies).number_fits))
       go (inr a) = rw e at (inside_parent t table 0 u (inside_root t table u a here))
 

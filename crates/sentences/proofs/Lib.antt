@@ -22,4 +22,3 @@ pub mod InsteadInRuns
 pub mod OneTable
 pub mod LinkChecks
 pub mod Only
-pub mod NoParts

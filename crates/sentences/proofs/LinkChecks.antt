@@ -4,11 +4,11 @@ use native.Mathlib.Nat.{add-zero, eq-or-lt_of_le, eq-zero-or-pos}
 use native.Mathlib.Omega.{arith}
 use mathlib.Core.Path.{◌≡◌, refl, sym, ap, ap₂, ◌∙◌}
 use mathlib.Core.Logic.{◌↔◌, ◌⊎◌, inl, inr}
-use mathlib.Core.Bool.{Bool, true, false, ◌&&◌, ◌||◌}
+use mathlib.Core.Bool.{true, ◌&&◌}
 use mathlib.Core.List.{List, [], ◌∷◌, map}
 use lib.Dec.{eqb, leb, ltb}
 use lib.ListN.{length}
-use borrow.Author.Tests.{eqb-true, eqb-false, eq-eqb, le-leb, lt-ltb, ltb-true}
+use borrow.Author.Tests.{eqb-true, eq-eqb, le-leb, lt-ltb, ltb-true}
 use Rattle.base.specs.Lists.{sum, nonempty}
 use Rattle.base.proofs.Lists.{both_true}
 use Rattle.base.proofs.Facts.{both, equal, all_below}
@@ -16,17 +16,17 @@ use Rattle.meaning.specs.declared.Entry.{Entry}
 use Rattle.meaning.specs.declared.Form.TheVariants.{Table}
 use Rattle.meaning.specs.Sizes.{no_part, length_of}
 use Rattle.meaning.specs.Kinds.{Kind, kind_of, arity}
-use Rattle.meaning.specs.Tree.{Part, kind, children, size, Program, empty, rooted}
-use Rattle.meaning.specs.Program.{parts, variables, clocks, entry_at, arity_of, program_refusal, Within}
+use Rattle.meaning.specs.Tree.{Part, kind, children, size}
+use Rattle.meaning.specs.Program.{parts, variables, clocks, entry_at, arity_of, program_refusal}
 use Rattle.meaning.specs.Table.{next_of, block, table_of, end_at, parent_at, next_at, kind_at, is_table}
 use Rattle.meaning.proofs.Trees.{All, part_ind, size_law, size_inner}
 use Rattle.meaning.proofs.Parsing.{arity_children}
 use Rattle.meaning.proofs.Files.{accepted, held_accepted}
-use Rattle.meaning.proofs.Tables.{program_table, table_held, table_holds, inside}
+use Rattle.meaning.proofs.Tables.{tree_table, table_held, table_holds, inside}
 use Rattle.meaning.proofs.Lies.{Lies, LieIn, own_row, own_kind, children_lie, first_lies, others_lie, root_lies}
-use Rattle.meaning.proofs.Nesting.{At, at, lower, root_parent, root_next}
-use Rattle.sentences.specs.Instead.{children_linked, part_linked, root_linked, all_linked, LinksDecide}
-use Rattle.sentences.proofs.TableRows.{same_entry}
+use Rattle.meaning.proofs.Nesting.{At, at, lower, root_next}
+use Rattle.sentences.specs.Instead.{children_linked, part_linked, all_linked, LinksDecide}
+use Rattle.sentences.proofs.TableRows.{same_entry, table_laid_down}
 use Rattle.sentences.proofs.OneTable.{tables_same}
 
 -- a sibling follows where some are left
@@ -130,9 +130,9 @@ module _ (t u : List ℕ) (linked : (p : ℕ) → p < parts u → part_linked t 
           record { end_is = r.0 ∙ omega (arith, size_law c); inside_same = λ i a b. r.1 i a (omega (arith, size_law c)) }
 
   -- so all rows say the same where the root's do
-  root_same : (p : Part) → Lies u p 0 no_part no_part → parts u ≡ size p → (parent_at t 0 ≡ no_part) × (next_at t 0 ≡ no_part) → (q : ℕ) → q < parts u → SameLinks t u q
+  root_same : (p : Part) → Lies u p 0 no_part no_part → parts u ≡ size p → parent_at t 0 ≡ no_part → next_at t 0 ≡ no_part → (q : ℕ) → q < parts u → SameLinks t u q
   unfolding Agrees
-  root_same p l n (a, b) q m = go (agrees p 0 no_part no_part l (omega arith)) (eq-zero-or-pos q)
+  root_same p l n a b q m = go (agrees p 0 no_part no_part l (omega arith)) (eq-zero-or-pos q)
     where
       go : SameInside t u 0 (0 + size p) → (q ≡ 0) ⊎ (0 < q) → SameLinks t u q
       go r (inl e) = rw e (record { ends = r.end_is ∙ sym (own_row l).end_is; parents = a ∙ sym (own_row l).parent_is; nexts = b ∙ sym (own_row l).next_is })
@@ -140,45 +140,37 @@ module _ (t u : List ℕ) (linked : (p : ℕ) → p < parts u → part_linked t 
 
 -- what it is to be linked
 record Linked (t : List ℕ) : Type 0 where
-  root_alone : 0 < parts t → (parent_at t 0 ≡ no_part) × (next_at t 0 ≡ no_part)
+  root_parent : parent_at t 0 ≡ no_part
+  root_next : next_at t 0 ≡ no_part
   each : (p : ℕ) → p < parts t → part_linked t p ≡ true
 
--- and what the tests say of it
-root_linked_lem : (t : List ℕ) → (root_linked t ≡ true) ↔ (0 < parts t → (parent_at t 0 ≡ no_part) × (next_at t 0 ≡ no_part))
-root_linked_lem t = go (eqb (parts t) 0) refl
-  where
-    tests : ((eqb (parent_at t 0) no_part && eqb (next_at t 0) no_part) ≡ true) ↔ ((parent_at t 0 ≡ no_part) × (next_at t 0 ≡ no_part))
-    tests = both (eqb (parent_at t 0) no_part) (eqb (next_at t 0) no_part) (equal no_part (parent_at t 0)) (equal no_part (next_at t 0))
-
-    go : (b : Bool) → eqb (parts t) 0 ≡ b → ((b || (eqb (parent_at t 0) no_part && eqb (next_at t 0) no_part)) ≡ true) ↔ (0 < parts t → (parent_at t 0 ≡ no_part) × (next_at t 0 ≡ no_part))
-    go true z = (λ h l. absurd (omega (arith, l, eqb-true (parts t) 0 z)), λ h. refl)
-    go false z = (λ h l. tests.0 h, λ h. tests.1 (h (omega (arith, eqb-false (parts t) 0 z))))
-
+-- and what the test says of it
 all_linked_lem : (t : List ℕ) → (all_linked t ≡ true) ↔ Linked t
 unfolding all_linked
 all_linked_lem t =
-    let tests = both (root_linked t) _ (root_linked_lem t) (all_below (part_linked t) (parts t)) in (
-      λ h. let x = tests.0 h in record { root_alone = x.0; each = x.1 },
-      λ l. tests.1 (l.root_alone, l.each),
+    let tests = both (eqb (parent_at t 0) no_part) _ (equal no_part (parent_at t 0)) (both (eqb (next_at t 0) no_part) _ (equal no_part (next_at t 0)) (all_below (part_linked t) (parts t))) in (
+      λ h. let x = tests.0 h in record { root_parent = x.0; root_next = x.1.0; each = x.1.1 },
+      λ l. tests.1 (l.root_parent, (l.root_next, l.each)),
     )
 
 -- a table is linked
 table_linked : (t : List ℕ) → is_table t ≡ true → Linked t
-table_linked t table = record { root_alone = λ l. (root_parent t table l, root_next t table l); each = part_linked_lem t table }
+table_linked t table = record { root_parent = (table_laid_down t table).root_parent; root_next = root_next t table; each = part_linked_lem t table }
 
--- and bytes that are linked and hold a program are its table
+-- and bytes that are linked and hold a program are the table of its tree
 linked_table : (t : List ℕ) → program_refusal Table t ≡ 0 → Linked t → is_table t ≡ true
 unfolding table_of
 linked_table t h l =
-    let x : Program = (accepted Table t h).0 in
+    let p : Part = (accepted Table t h).0 in
     let held = (accepted Table t h).2 in
     let v : ℕ = variables t in
     let k : ℕ = clocks t in
-    let u : List ℕ = table_of v k x in
-    let whole = table_holds v k x held.within in
+    let u : List ℕ = table_of v k p in
+    let whole = table_holds v k p held.within in
     let n : parts t ≡ parts u = held.parts_are ∙ sym whole.parts_are in
     let entry : (q : ℕ) → q < parts u → entry_at Table t q ≡ entry_at Table u q = λ q m. same_entry Table Table t u (held.entries_are ∙ sym whole.entries_are) q (rw n m) m in
-    let links : (q : ℕ) → q < parts u → SameLinks t u q = rows_same x held.within n entry in
+    let root = root_lies v k p held.within in
+    let links : (q : ℕ) → q < parts u → SameLinks t u q = root_same t u (λ q m. l.each q (rw n m)) entry p root whole.parts_are l.root_parent l.root_next in
     let same : t ≡ u =
     tables_same t u
     (record {
@@ -190,14 +182,7 @@ linked_table t h l =
       parents = λ q m. (links q m).parents;
       nexts = λ q m. (links q m).nexts;
     }) in
-    rw same (program_table v k x held.within)
-  where
-    rows_same : (x : Program) → Within (variables t) (clocks t) x → parts t ≡ parts (table_of (variables t) (clocks t) x)
-        → ((q : ℕ) → q < parts (table_of (variables t) (clocks t) x) → entry_at Table t q ≡ entry_at Table (table_of (variables t) (clocks t) x) q)
-        → (q : ℕ) → q < parts (table_of (variables t) (clocks t) x) → SameLinks t (table_of (variables t) (clocks t) x) q
-    rows_same empty w n entry q m = absurd (omega (arith, m, (table_holds (variables t) (clocks t) empty w).parts_are))
-    rows_same (rooted p) w n entry q m =
-        root_same t (table_of (variables t) (clocks t) (rooted p)) (λ i b. l.each i (rw n b)) entry p (root_lies (variables t) (clocks t) p w) (table_holds (variables t) (clocks t) (rooted p) w).parts_are (l.root_alone (omega (arith, n, m))) q m
+    rw same (tree_table v k p held.within)
 
 -- bytes are a table exactly where they hold a program and are linked
 pub links_decide : LinksDecide

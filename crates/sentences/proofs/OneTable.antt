@@ -81,7 +81,7 @@ parents_below t u a zero h q l = absurd (omega arith)
 parents_below t u a (suc n) h q l = go (parents_below t u a n (omega arith)) (eq-or-lt_of_le (le_of_suc-le-suc l))
   where
     own : ((q : ℕ) → q < n → parent_at t q ≡ parent_at u q) → (n ≡ 0) ⊎ (0 < n) → parent_at t n ≡ parent_at u n
-    own ih (inl e) = rw e (a.this.root_parent (omega (arith, h)) ∙ sym (a.that.root_parent (omega (arith, h, a.same_parts))))
+    own ih (inl e) = rw e (a.this.root_parent ∙ sym a.that.root_parent)
     own ih (inr f) = compare (lower (parent_at t n) (parent_at u n)) (lower (parent_at u n) (parent_at t n))
       where
         compare : (parent_at t n < parent_at u n) ⊎ (parent_at u n ≤ parent_at t n) → (parent_at u n < parent_at t n) ⊎ (parent_at t n ≤ parent_at u n) → parent_at t n ≡ parent_at u n

@@ -141,7 +141,7 @@ module _ (t est r a b : List ℕ) (x : BeginningSteps t est r a) (y : BeginningS
   beginning_only small others =
       same_record t a b small others
       (record {
-        phases = x.begins_in_lem ∙ sym y.begins_in_lem;
+        phases = x.begins_waiting ∙ sym y.begins_waiting;
         times = x.begins_at ∙ sym y.begins_at;
         estimates = x.first_stored ∙ sym y.first_stored;
         flags = same_list (started_in t a) (started_in t b) (same_length a b started_place (clocks t)) (λ c l. (x.none_started c (rw length_bytes at l)).0 ∙ sym (y.none_started c (rw length_bytes at l)).0);

@@ -23,6 +23,7 @@ use Rattle.meaning.specs.Cycle.{ends_if, transition, initial_marks, initialised,
 use Rattle.sentences.specs.Marks.{Marked, Deciding}
 use Rattle.sentences.specs.Stepping.{child_taken}
 use Rattle.meaning.proofs.Decisions.{decides, decides_kind}
+use Rattle.meaning.proofs.Tables.{root_there}
 use Rattle.meaning.proofs.Nesting.{lower, root_next}
 use Rattle.sentences.proofs.Followers.{Branches, choice_branches}
 
@@ -230,9 +231,9 @@ module _ (t : List ℕ) (h : is_table t ≡ true) (sit : Situation) (ms : List �
       go Second e = decided (decides_deciding t sit ms p m (ap decides e))
 
   -- "If the root ends, phase is 2": the root is found ended exactly where it ends
-  pub root_ends : 0 < parts t → Marked ms 0 → root_ended (settled_from t sit 0 ms) ≡ ends_at t sit ms 0
-  root_ends some m = go (ends_at t sit ms 0) refl
+  pub root_ends : Marked ms 0 → root_ended (settled_from t sit 0 ms) ≡ ends_at t sit ms 0
+  root_ends m = go (ends_at t sit ms 0) refl
     where
       go : (b : Bool) → ends_at t sit ms 0 ≡ b → root_ended (settled_from t sit 0 ms) ≡ b
-      go true e = rw (end_no_next t sit ms 0 e (root_next t h some))
-      go false e = rw (kept_own 0 some m e)
+      go true e = rw (end_no_next t sit ms 0 e (root_next t h))
+      go false e = rw (kept_own 0 (root_there t h) m e)

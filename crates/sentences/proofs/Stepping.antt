@@ -2,14 +2,14 @@
 use Prim.Native.Nat.{ℕ, ◌+◌, ◌-◌, ◌≤◌, ◌<◌}
 use native.Mathlib.Nat.{sub-zero, zero-add}
 use native.Mathlib.Omega.{arith}
-use mathlib.Core.Path.{◌≡◌, refl, sym, ap, ◌∙◌}
-use mathlib.Core.Bool.{Bool, true, false, cond, ◌&&◌, and-eq-true_iff, false≢true}
+use mathlib.Core.Path.{◌≡◌, sym, ap, ◌∙◌}
+use mathlib.Core.Bool.{true, ◌&&◌, and-eq-true_iff, false≢true}
 use mathlib.Core.Logic.{◌↔◌, ◌⊎◌, inl, inr}
-use mathlib.Core.List.{List, []}
-use lib.Dec.{eqb, leb}
+use mathlib.Core.List.{List}
+use lib.Dec.{leb}
 use lib.ListN.{length, get_or, drop, get_or-replicate, get_or-eq_default}
 use lib.Seq.{length-sets, get_or-drop}
-use borrow.Author.Tests.{eqb-true, eqb-false, eq-eqb, leb-true}
+use borrow.Author.Tests.{eqb-true, eq-eqb, leb-true}
 use Rattle.base.specs.Lists.{all}
 use Rattle.base.proofs.Facts.{at_most, all_facts}
 use Rattle.base.proofs.Lists.{each_passes}
@@ -21,18 +21,18 @@ use Rattle.meaning.specs.Kinds.{MAINTAIN, kind_of, number_of}
 use Rattle.meaning.specs.Program.{parts, variables, entry_at}
 use Rattle.meaning.specs.Table.{kind_at, operand_of, end_at, Inside, is_table}
 use Rattle.meaning.specs.Conditions.{Situation, violated}
-use Rattle.meaning.specs.Record.{estimate_place, started_place, starts_place, marks_place, record_length, phase_of, last_time, estimate_in, started_in, starts_in, marks_in, is_mark, started_flag, rest_zero, record_allowed, finished}
-use Rattle.meaning.specs.Cycle.{initial_marks, phase_with, marks_begun, is_kind, breaks, checked_from, situation, begin_refusal, begun_into, offered_goals, offered_name, offer_refusal, offered_into, goals_into, settle_refusal, settled_into}
+use Rattle.meaning.specs.Record.{estimate_place, started_place, starts_place, marks_place, record_length, phase_of, last_time, estimate_in, started_in, starts_in, marks_in, is_mark, started_flag, rest_zero, record_allowed, waiting, finished}
+use Rattle.meaning.specs.Cycle.{initial_marks, is_kind, breaks, checked_from, situation, begin_refusal, begun_into, offered_goals, offered_name, offer_refusal, offered_into, goals_into, settle_refusal, settled_into}
 use Rattle.meaning.proofs.Lies.{own_row, own_kind}
 use Rattle.meaning.proofs.Nesting.{lower, at, outer_part}
 use Rattle.meaning.proofs.Refusals.{offer_tests_lem, goal_bytes_into, settle_tests_lem}
-use Rattle.meaning.proofs.Tables.{root_end}
-use Rattle.meaning.proofs.Records.{length_initial, root_marked, begin_tests_lem, begun_fits, begun_bytes, rest_zero_lem}
+use Rattle.meaning.proofs.Tables.{root_there, root_end}
+use Rattle.meaning.proofs.Records.{length_root, begin_tests_lem, begun_fits, begun_bytes, rest_zero_lem}
 use Rattle.sentences.specs.Marks.{Marked, Flags}
 use Rattle.sentences.specs.Fields.{Bytes, Spare}
 use Rattle.sentences.specs.Stepping.{BegunWith, BeginningSteps, Broken, OfferSteps, SettlingSteps}
-use Rattle.sentences.proofs.Initialised.{initialised_begun, first_phase, begun_record}
-use Rattle.sentences.proofs.AllowedRecords.{rest_right, exactly_allowed, parts_allowed_lem}
+use Rattle.sentences.proofs.Initialised.{begun_within, initialised_begun, begun_record}
+use Rattle.sentences.proofs.AllowedRecords.{is_mark_lem, rest_right, exactly_allowed, parts_allowed_lem}
 use Rattle.sentences.proofs.Settlings.{ends_at, marked_length, root_ends}
 use Rattle.sentences.proofs.ZeroOrOne.{flags_initial, flags_checked, flags_settled}
 use Rattle.sentences.proofs.Checked.{offer_marks}
@@ -67,33 +67,15 @@ spare_blank t r h i s l = go s
         let k : marks_place + (i - marks_place) ≡ i = omega arith in
         rw k at (((rest_right t r).0 h).1.1.1 (i - marks_place) (omega arith) (omega arith))
 
--- "the root initialised", where there is one
-root_begun : (t : List ℕ) → is_table t ≡ true → (p : ℕ) → Marked (marks_begun t) p ↔ ((p < parts t) × BegunWith t 0 p)
-unfolding marks_begun
-root_begun t h p = go (eqb (parts t) 0) refl
+-- "the root initialised"
+root_begun : (t : List ℕ) → is_table t ≡ true → (p : ℕ) → Marked (initial_marks t 0) p ↔ BegunWith t 0 p
+root_begun t h p = (λ m. (begun (omega (arith, marked_length (initial_marks t 0) p m, length_root t h, root_end t h))).0 m, λ b. (begun (begun_within t h 0 some b).1).1 b)
   where
-    some : eqb (parts t) 0 ≡ false → 0 < end_at t 0
-    some z = omega (arith, eqb-false (parts t) 0 z, root_end t h)
+    some : 0 < end_at t 0
+    some = omega (arith, root_there t h, root_end t h)
 
-    begun : eqb (parts t) 0 ≡ false → p < end_at t 0 → Marked (initial_marks t 0) p ↔ BegunWith t 0 p
-    begun z l = rw sub-zero at (initialised_begun t h 0 (some z) p (omega arith) l)
-
-    go : (b : Bool) → eqb (parts t) 0 ≡ b → Marked (cond b [] (initial_marks t 0)) p ↔ ((p < parts t) × BegunWith t 0 p)
-    go true z = (λ m. absurd (false≢true m), λ b. absurd (omega (arith, b.0, eqb-true (parts t) 0 z)))
-    go false z = (
-      λ m.
-          let l : p < end_at t 0 = omega (arith, marked_length (initial_marks t 0) p m, length_initial t 0, some z) in
-          (omega (arith, l, root_end t h), (begun z l).0 m),
-      λ b. (begun z (omega (arith, b.0, root_end t h))).1 b.1,
-    )
-
-flags_first : (t : List ℕ) → Flags (marks_begun t)
-unfolding marks_begun
-flags_first t = go (eqb (parts t) 0)
-  where
-    go : (b : Bool) → Flags (cond b [] (initial_marks t 0))
-    go true p = omega arith
-    go false p = flags_initial t 0 p
+    begun : p < end_at t 0 → Marked (initial_marks t 0) p ↔ BegunWith t 0 p
+    begun l = rw sub-zero at (initialised_begun t h 0 some p (omega arith) l)
 
 module _ (t est r : List ℕ) (h : begin_refusal t est (length r) ≡ 0) where
   begun_length : length (begun_into t est r) ≡ length r
@@ -104,15 +86,16 @@ module _ (t est r : List ℕ) (h : begin_refusal t est (length r) ≡ 0) where
   pub beginning_steps : BeginningSteps t est r (begun_into t est r)
   beginning_steps =
       let table : is_table t ≡ true = (begin_tests_lem t est (length r) h).0 in
+      let whole : length (initial_marks t 0) ≡ parts t = length_root t table in
       let f = begun_record t est r h in
       record {
-        begins_in_lem = f.phase_is ∙ first_phase t;
+        begins_waiting = f.phase_is;
         begins_at = f.time_is;
         none_started = λ c l. (rw (f.started_is, get_or-replicate), rw (f.starts_are, get_or-replicate));
         first_stored = f.estimate_is;
         root_initialised = rw f.marks_are (root_begun t table);
-        first_marks = rw f.marks_are (flags_first t);
-        spare_zero = rw (begun_bytes t est r h) (spare_blank t _ (rest_zero_lem (begun_fits t est (length r) h) (phase_with (marks_begun t)) (drop record_length r)));
+        first_marks = rw f.marks_are (flags_initial t 0);
+        spare_zero = rw (begun_bytes t est r h whole) (spare_blank t _ (rest_zero_lem (begun_fits t est (length r) h whole) waiting (drop record_length r)));
         further_kept = further record_length r (begun_into t est r) f.more_is;
         buffer_length = begun_length;
       }
@@ -193,7 +176,9 @@ module _ (t r : List ℕ) (time : ℕ) (goals : List ℕ) (h : offer_refusal t r
 
 module _ (t r est : List ℕ) (h : settle_refusal t r est ≡ 0) where
   root_runs : Marked (marks_in t r) 0
-  root_runs = root_marked t r (settle_tests_lem t r est h).1.0 (λ e. false≢true (rw (eq-eqb (phase_of r) finished e) at (settle_tests_lem t r est h).1.1.0))
+  root_runs =
+      let a = (exactly_allowed t r).0 (settle_tests_lem t r est h).1.0 in
+      (is_mark_lem (get_or (marks_in t r) 0 0)).1 (a.root_marked (λ e. false≢true (rw (eq-eqb (phase_of r) finished e) at (settle_tests_lem t r est h).1.1.0)))
 
   -- a settling that is not refused, of a record of bytes: only from bytes is a time read back
   pub settling_steps : Bytes r → SettlingSteps t r est (settled_into t r est)
@@ -211,7 +196,7 @@ module _ (t r est : List ℕ) (h : settle_refusal t r est ≡ 0) where
         settled_flags_lem = rw f.marks_are (flags_settled t sit ms 0);
         clock_set = λ c l p a. rw (f.started_is, f.starts_are) (named_set t ms (started_in t r) started_flag c l p a, named_set t ms (starts_in t r) (last_time r) c l p a);
         clock_kept = λ c l n. rw (f.started_is, f.starts_are) (unnamed_kept t ms (started_in t r) started_flag c l n, unnamed_kept t ms (starts_in t r) (last_time r) c l n);
-        phase_settled = f.phase_is ∙ rw (root_ends t table sit ms (omega (arith, whole, marked_length ms 0 root_runs)) root_runs);
+        phase_settled = f.phase_is ∙ rw (root_ends t table sit ms root_runs);
         estimate_stored = f.estimate_is;
         time_kept = f.time_is;
         settled_spare = settled_spare t r est h;

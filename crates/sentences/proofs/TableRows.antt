@@ -23,9 +23,9 @@ use Rattle.meaning.specs.Table.{next_of, block, end_at, parent_at, next_at, kind
 use Rattle.meaning.proofs.Trees.{inner, size_law, size_inner}
 use Rattle.meaning.proofs.Parsing.{arity_children}
 use Rattle.meaning.proofs.Files.{length_entries, file_entries}
-use Rattle.meaning.proofs.Tables.{table_held, inside, Later}
+use Rattle.meaning.proofs.Tables.{table_held, inside, root_there, Later}
 use Rattle.meaning.proofs.Lies.{LieIn, own_row, own_kind, children_lie, first_lies, others_lie}
-use Rattle.meaning.proofs.Nesting.{At, Found, at, found, inside_root, root_parent, root_next, nested, parent_inside, inside_parent, outer_part, inner_part, lower}
+use Rattle.meaning.proofs.Nesting.{At, Found, at, found, inside_root, root_next, nested, parent_inside, inside_parent, outer_part, inner_part, lower}
 use Rattle.sentences.specs.Rows.{ChildOf, Descendant, child, further, ChildOfKind, Following, number_of_children, LaidDown}
 use Rattle.sentences.proofs.Followers.{next_nested}
 
@@ -74,6 +74,14 @@ module _ (t : List ℕ) (table : is_table t ≡ true) where
       let x = table_held t table in
       omega (arith, x.1.parts_are, x.1.within.size_fits)
 
+  -- the root has no parent
+  root_alone : parent_at t 0 ≡ no_part
+  root_alone = go (inside t table 0 (root_there t table)).parent_is
+    where
+      go : (parent_at t 0 ≡ no_part) ⊎ (parent_at t 0 < 0) → parent_at t 0 ≡ no_part
+      go (inl e) = e
+      go (inr l) = absurd (omega arith)
+
   -- every other part stands inside its parent
   stands : (p : ℕ) → 0 < p → p < parts t → Inside t (parent_at t p) p
   stands p first there = inside_parent t table 0 p (inside_root t table p first there)
@@ -85,7 +93,7 @@ module _ (t : List ℕ) (table : is_table t ≡ true) where
       go : (q ≡ 0) ⊎ (0 < q) → 0 < q
       go (inr l) = l
       go (inl e) =
-          let h : p ≡ no_part = sym c.parent_is ∙ ap (parent_at t) e ∙ root_parent t table (omega (arith, c.parent_there)) in
+          let h : p ≡ no_part = sym c.parent_is ∙ ap (parent_at t) e ∙ root_alone in
           absurd (omega (arith, c.parent_there, parts_fit))
 
   -- so it stands inside its parent
@@ -202,7 +210,7 @@ module _ (t : List ℕ) (table : is_table t ≡ true) where
     not_none h = go (eq-zero-or-pos p)
       where
         go : (p ≡ 0) ⊎ (0 < p) → 0 < p
-        go (inl e) = absurd (h (ap (next_at t) e ∙ root_next t table (omega (arith, there))))
+        go (inl e) = absurd (h (ap (next_at t) e ∙ root_next t table))
         go (inr l) = l
 
     kind_first : (k : Kind) → ChildOfKind t k p → 0 < p
@@ -301,7 +309,7 @@ module _ (t : List ℕ) (table : is_table t ≡ true) where
         end_after = λ p l. (inside t table p l).end_after;
         end_within_lem = λ p l. (inside t table p l).end_within_lem;
         end_is = λ p q l. (λ d. descendant_inside p d, λ i. inside_descendant q p q (omega arith) i);
-        root_parent = root_parent t table;
+        root_parent = root_alone;
         parent_before = λ p f l. (stands p f l).0;
         parent_around = λ p f l. inside_descendant p (parent_at t p) p (omega arith) (stands p f l);
         parent_nearest = λ p r l d. nearest p r l (descendant_inside r d);

@@ -55,7 +55,7 @@ pub record AllowedRecord (t r : List ℕ) : Type 0 where
   -- "an unstarted clock's time is 0 and a started one's not after the last time"
   pub unstarted_zero : (c : ℕ) → c < clocks t → get_or (started_in t r) c 0 ≡ 0 → get_or (starts_in t r) c 0 ≡ 0
   pub started_before : (c : ℕ) → c < clocks t → 0 < get_or (started_in t r) c 0 → get_or (starts_in t r) c 0 ≤ last_time r
-  -- "in phase 2 no mark is set, otherwise the root is marked"; without parts there is no root, and so "no other phase is allowed" (document 02, R-6)
+  -- "in phase 2 no mark is set, otherwise the root is marked"
   pub finished_blank : phase_of r ≡ finished → (p : ℕ) → p < parts t → PartUnmarked t r p
   pub root_marked : phase_of r ≢ finished → PartMarked t r 0
   -- "nothing is marked inside an unmarked part"

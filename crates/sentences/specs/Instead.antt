@@ -1,5 +1,5 @@
 -- What a board may compute instead.
-use Rattle.std.specs.Prelude.{ℕ, zero, suc, ◌+◌, ◌*◌, ◌≤◌, ◌<◌, ◌≡◌, Bool, ◌&&◌, ◌||◌, List, eqb, leb, ltb, length}
+use Rattle.std.specs.Prelude.{ℕ, zero, suc, ◌+◌, ◌*◌, ◌≤◌, ◌<◌, ◌≡◌, Bool, ◌&&◌, List, eqb, leb, ltb, length}
 use Rattle.base.specs.Lists.{all, tabulate}
 use Rattle.meaning.specs.declared.Form.{Form}
 use Rattle.meaning.specs.declared.Form.TheVariants.{Table}
@@ -39,12 +39,9 @@ children_linked t p q (suc n) =
 unfoldable pub part_linked : List ℕ → ℕ → Bool
 part_linked t p = children_linked t p (suc p) (arity_of (entry_at Table t p))
 
--- the root, where there is one, has no parent and no next
-abbrev pub root_linked : List ℕ → Bool
-root_linked t = eqb (parts t) 0 || (eqb (parent_at t 0) no_part && eqb (next_at t 0) no_part)
-
+-- the root has no parent and no next
 unfoldable pub all_linked : List ℕ → Bool
-all_linked t = root_linked t && all (part_linked t) (tabulate (λ p. p) 0 (parts t))
+all_linked t = eqb (parent_at t 0) no_part && (eqb (next_at t 0) no_part && all (part_linked t) (tabulate (λ p. p) 0 (parts t)))
 
 -- Bytes are a table exactly where they pass the tests of a program, read as a table, and are linked so
 abbrev pub LinksDecide : Type 0

@@ -45,7 +45,7 @@ pub record LaidDown (t : List ℕ) : Type 0 where
   pub end_within_lem : (p : ℕ) → p < parts t → end_at t p ≤ parts t
   pub end_is : (p q : ℕ) → p < parts t → Descendant t p q ↔ ((p < q) × (q < end_at t p))
   -- "parent": the part around it, with no other between; "255 stands for no parent or no next"
-  pub root_parent : 0 < parts t → parent_at t 0 ≡ no_part
+  pub root_parent : parent_at t 0 ≡ no_part
   pub parent_before : (p : ℕ) → 0 < p → p < parts t → parent_at t p < p
   pub parent_around : (p : ℕ) → 0 < p → p < parts t → Descendant t (parent_at t p) p
   pub parent_nearest : (p r : ℕ) → parent_at t p < r → Descendant t r p → ⊥

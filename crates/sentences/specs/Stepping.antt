@@ -1,9 +1,9 @@
 -- A beginning, an offer and a settling as the papers say them: by part number, variable and clock, with no pass over the parts.
-use Rattle.std.specs.Prelude.{ℕ, suc, ◌≤◌, ◌<◌, ◌≡◌, Bool, true, false, cond, ◌↔◌, ◌≢◌, ◌⊎◌, List, eqb, length, get_or}
+use Rattle.std.specs.Prelude.{ℕ, suc, ◌≤◌, ◌<◌, ◌≡◌, Bool, true, false, cond, ◌↔◌, ◌≢◌, ◌⊎◌, List, length, get_or}
 use Rattle.meaning.specs.declared.Form.TheVariants.{Table}
 use Rattle.meaning.specs.Sizes.{max_value, no_part}
 use Rattle.meaning.specs.Kinds.{GOAL, START, WAIT, SEQ, PAR, MAINTAIN, REPEAT}
-use Rattle.meaning.specs.Program.{parts, variables, clocks, entry_at}
+use Rattle.meaning.specs.Program.{variables, clocks, entry_at}
 use Rattle.meaning.specs.Table.{kind_at, operand_of, end_at, next_at, Inside}
 use Rattle.meaning.specs.Conditions.{Situation, reached, satisfied, violated}
 use Rattle.meaning.specs.Record.{record_length, phase_of, last_time, estimate_in, started_in, starts_in, marks_in, started_flag, waiting, offered, finished}
@@ -21,14 +21,13 @@ pub data BegunWith (t : List ℕ) (q : ℕ) : ℕ → Type 0 where
   maintain_child : (u p : ℕ) → BegunWith t q u → kind_at t u ≡ MAINTAIN → Child t u p → BegunWith t q p
   repeat_child : (u p : ℕ) → BegunWith t q u → kind_at t u ≡ REPEAT → Child t u p → BegunWith t q p
 
--- "Beginning a run: phase 0, last time 0, no clock started, the estimate stored, the root initialised": buffer r, and r' after it. Where there are no
--- parts "Beginning such a run gives phase 2" (document 02, R-6), and nothing is marked
+-- "Beginning a run: phase 0, last time 0, no clock started, the estimate stored, the root initialised": buffer r, and r' after it
 pub record BeginningSteps (t est r r' : List ℕ) : Type 0 where
-  pub begins_in_lem : phase_of r' ≡ cond (eqb (parts t) 0) finished waiting
+  pub begins_waiting : phase_of r' ≡ waiting
   pub begins_at : last_time r' ≡ 0
   pub none_started : (c : ℕ) → c < clocks t → (get_or (started_in t r') c 0 ≡ 0) × (get_or (starts_in t r') c 0 ≡ 0)
   pub first_stored : estimate_in t r' ≡ est
-  pub root_initialised : (p : ℕ) → Marked (marks_in t r') p ↔ ((p < parts t) × BegunWith t 0 p)
+  pub root_initialised : (p : ℕ) → Marked (marks_in t r') p ↔ BegunWith t 0 p
   pub first_marks : Flags (marks_in t r')
   -- "entries beyond V, K and N are 0"
   pub spare_zero : (i : ℕ) → Spare t i → i < record_length → get_or r' i 0 ≡ 0

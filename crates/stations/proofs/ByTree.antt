@@ -10,7 +10,7 @@ use Rattle.base.specs.Lists.{all}
 use Rattle.base.proofs.Lists.{and_left, and_right}
 use Rattle.meaning.specs.declared.Form.TheVariants.{File}
 use Rattle.meaning.specs.Sizes.{time_limit}
-use Rattle.meaning.specs.Program.{variables, program_of, program_refusal}
+use Rattle.meaning.specs.Program.{variables, tree_of, program_refusal}
 use Rattle.meaning.specs.Table.{compiled}
 use Rattle.meaning.specs.Record.{record_length}
 use Rattle.meaning.specs.Cycle.{estimate_allowed, begin_refusal}
@@ -29,13 +29,13 @@ module _ (x : Station) (accepted : program_refusal File x.file ≡ 0) (allowed :
   begins : begin_refusal (compiled File x.file) x.first record_length ≡ 0
   begins = runs.beginning ∙ rw allowed
 
-  by_either : by_table x ≡ by_tree x (program_of File x.file)
+  by_either : by_table x ≡ by_tree x (tree_of File x.file)
   unfolding by_table by_tree
   by_either =
       let a = runs.begun begins in
-      rw (runs.program_is, begins, a.replies, a.finishing, a.flags, a.clock_starts)
+      rw (runs.tree_is, begins, a.replies, a.finishing, a.flags, a.clock_starts)
 
-  pub by_tree_alone : x.answer ≡ 0 → by_tree x (program_of File x.file) ≡ true → holds x ≡ true
+  pub by_tree_alone : x.answer ≡ 0 → by_tree x (tree_of File x.file) ≡ true → holds x ≡ true
   unfolding holds
   by_tree_alone none-refused h =
       let first : eqb (program_refusal File x.file) x.answer ≡ true = rw (accepted, none-refused) in
@@ -59,7 +59,7 @@ abbrev pub holds_by_tree : Station → Bool
 holds_by_tree x =
     eqb (program_refusal File x.file) 0
     && (eqb x.answer 0
-    && (estimate_allowed (variables x.file) x.first && (timely x.calls && by_tree x (program_of File x.file))))
+    && (estimate_allowed (variables x.file) x.first && (timely x.calls && by_tree x (tree_of File x.file))))
 
 one_holds : (x : Station) → holds_by_tree x ≡ true → holds x ≡ true
 one_holds x h =

@@ -11,8 +11,8 @@ use Rattle.meaning.specs.declared.Form.TheVariants.{File}
 use Rattle.meaning.specs.declared.Transition.TheVariants.{Stays, Ends, Second}
 use Rattle.meaning.specs.declared.Outcome.TheVariants.{Satisfied, Open}
 use Rattle.meaning.specs.Kinds.{GOAL, SEQ, CHOICE, REPEAT, kind_of, number_of, test_of}
-use Rattle.meaning.specs.Tree.{Part, goal, start, wait, seq, par, choice, repeat, one, more, rooted}
-use Rattle.meaning.specs.Program.{program_of}
+use Rattle.meaning.specs.Tree.{Part, goal, start, wait, seq, par, choice, repeat, one, more}
+use Rattle.meaning.specs.Program.{tree_of}
 use Rattle.meaning.specs.Table.{operand_of, next_at, compiled}
 use Rattle.meaning.specs.Conditions.{Situation, outcome, reached, satisfied}
 use Rattle.meaning.specs.Record.{record_length}
@@ -159,9 +159,9 @@ tree =
     (wait (operand 3 0 0))
     (one (repeat (seq (more (start (operand 0 0 0)) (one (choice (operand 4 1 5) (goal (operand 0 0 1)) (goal (operand 0 0 2)))))))))
 
-pub program_is : program_of File file ≡ some (rooted tree)
+pub tree_is : tree_of File file ≡ some tree
 unfolding compile
-program_is = refl
+tree_is = refl
 
 pub record Unfolded : Type 0 where
   pub afresh_is : afresh tree ≡ both tt (inl tt)

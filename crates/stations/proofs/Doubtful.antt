@@ -11,8 +11,8 @@ use Rattle.meaning.specs.declared.Form.TheVariants.{File}
 use Rattle.meaning.specs.declared.Transition.TheVariants.{Stays, Ends}
 use Rattle.meaning.specs.declared.Outcome.TheVariants.{Satisfied, Violated}
 use Rattle.meaning.specs.Kinds.{SEQ, MAINTAIN, kind_of, number_of, test_of}
-use Rattle.meaning.specs.Tree.{Part, goal, start, wait, seq, maintain, one, more, rooted}
-use Rattle.meaning.specs.Program.{program_of}
+use Rattle.meaning.specs.Tree.{Part, goal, start, wait, seq, maintain, one, more}
+use Rattle.meaning.specs.Program.{tree_of}
 use Rattle.meaning.specs.Table.{operand_of, next_at, compiled}
 use Rattle.meaning.specs.Conditions.{Situation, outcome, violated}
 use Rattle.meaning.specs.Record.{record_length, last_time, estimate_in}
@@ -160,9 +160,9 @@ tree =
     (maintain (operand 1 1 0) (seq (more (start (operand 0 0 0)) (more (wait (operand 3 0 10)) (one (goal (operand 0 0 2)))))))
     (one (goal (operand 0 0 1))))
 
-pub program_is : program_of File file ≡ some (rooted tree)
+pub tree_is : tree_of File file ≡ some tree
 unfolding compile
-program_is = refl
+tree_is = refl
 
 -- the SEQ is at its first child, a MAINTAIN that holds, whose SEQ is at its second
 abbrev pub at_wait : Rest tree

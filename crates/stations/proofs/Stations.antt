@@ -7,7 +7,7 @@ use Rattle.base.specs.Lists.{all}
 use Rattle.meaning.proofs.Computed.{settle as settleCall}
 use Rattle.agreement.specs.Unfolding.{afresh, check, working, settle}
 use Rattle.agreement.specs.Runs.{tree_next, tree_reply, table_finishing, tree_finishing, lowest_at_work, start_each}
-use Rattle.stations.specs.Stations.{Station, stations, further, contested_stations, restarted_stations, silent_stations, empty_stations, same_reply, same_replies, by_table, by_tree, holds, all_hold}
+use Rattle.stations.specs.Stations.{Station, stations, further, contested_stations, restarted_stations, silent_stations, same_reply, same_replies, by_table, by_tree, holds, all_hold}
 use Rattle.stations.proofs.ByTree.{timely, all_hold_lem}
 
 -- to unfold this is to unfold all that a station is computed with
@@ -35,10 +35,6 @@ silent_hold : all_of silent_stations ≡ true
 unfolding silent_stations all_of timely
 silent_hold = all_hold_lem silent_stations refl
 
-empty_hold : all_of empty_stations ≡ true
-unfolding empty_stations all_of
-empty_hold = refl
-
 pub ten_stations : all_hold ≡ true
 unfolding all_of
-ten_stations = rw (ten_hold, further_hold, contested_hold, restarted_hold, silent_hold, empty_hold)
+ten_stations = rw (ten_hold, further_hold, contested_hold, restarted_hold, silent_hold)

@@ -1,12 +1,12 @@
--- The ten stations of document 01, further programs, and those of document 02's R-1, R-2, R-4 and R-6: tables of them, and what it is for one of them to hold by
+-- The ten stations of document 01, further programs, and those of document 02's R-1, R-2 and R-4: tables of them, and what it is for one of them to hold by
 -- the table's definitions and by the unfolding.
 use Rattle.std.specs.Prelude.{ℕ, suc, ◌<◌, ◌≡◌, Bool, true, false, cond, ◌&&◌, List, [], ◌∷◌, ◌++◌, eqb, replicate}
 use Rattle.std.proofs.Math.Option.{Option, none, some}
 use Rattle.base.specs.Lists.{all, flat, same}
 use Rattle.meaning.specs.declared.Form.TheVariants.{File}
 use Rattle.meaning.specs.Sizes.{unknown_value, time_limit}
-use Rattle.meaning.specs.Tree.{Program}
-use Rattle.meaning.specs.Program.{variables, clocks, program_of, program_refusal}
+use Rattle.meaning.specs.Tree.{Part}
+use Rattle.meaning.specs.Program.{variables, clocks, tree_of, program_refusal}
 use Rattle.meaning.specs.Table.{compiled}
 use Rattle.meaning.specs.Record.{record_length, started_in, starts_in, estimate_byte_allowed}
 use Rattle.meaning.specs.Cycle.{no_goal, contested, begin_refusal, begun_into}
@@ -247,18 +247,6 @@ silent_stations =
     ∷ station goal1 0 (at 0 ∷ with_estimate 251 ∷ with_estimate 254 ∷ with_estimate unknown_value ∷ []) (goal_is 1 ∷ refused estimateNotAllowed ∷ refused estimateNotAllowed ∷ running ∷ []) none
     ∷ []
 
--- "Beginning such a run gives phase 2, … and any offer or settling gets 14" (document 02, R-6): no parts, with no call; with calls that a program with parts
--- would answer; and with calls that it would refuse by 12, 8 and 13
-abbrev pub no_parts : List ℕ
-no_parts = program 0 [] []
-
-unfoldable pub empty_stations : List Station
-empty_stations =
-    station no_parts 7 [] [] (some 0)
-    ∷ station no_parts 0 (at 10 ∷ with_estimate 0 ∷ with_estimate 0 ∷ at 10 ∷ []) (refused runFinished ∷ refused runFinished ∷ refused runFinished ∷ refused runFinished ∷ []) (some 0)
-    ∷ station no_parts unknown_value (at 10 ∷ at 9 ∷ offer 10 [] ∷ settling [] ∷ with_estimate 251 ∷ []) (refused runFinished ∷ refused runFinished ∷ refused runFinished ∷ refused runFinished ∷ refused runFinished ∷ []) (some 0)
-    ∷ []
-
 -- Station 10: "The file .. and its table below"
 abbrev pub table10 : List ℕ
 table10 =
@@ -310,22 +298,22 @@ by_table x =
     && (same (started_in t after) x.started && same (starts_in t after) x.starts)))
 
 -- by unfolding the tree
-unfoldable pub by_tree : Station → Option Program → Bool
+unfoldable pub by_tree : Station → Option Part → Bool
 by_tree x none = false
-by_tree x (some y) =
+by_tree x (some p) =
     let v = variables x.file in
     let k = clocks x.file in
-    let b = begin y k x.first in
-    let after = tree_after y v b x.calls in
-    same_replies (tree_replies y v b x.calls) x.replies
-    && (same_number (tree_finishing y v b 0 x.calls) x.finishing
+    let b = begin p k x.first in
+    let after = tree_after p v b x.calls in
+    same_replies (tree_replies p v b x.calls) x.replies
+    && (same_number (tree_finishing p v b 0 x.calls) x.finishing
     && (same after.started x.started && same after.starts x.starts))
 
 unfoldable pub holds : Station → Bool
-holds x = eqb (program_refusal File x.file) x.answer && cond (eqb x.answer 0) (by_table x && by_tree x (program_of File x.file)) true
+holds x = eqb (program_refusal File x.file) x.answer && cond (eqb x.answer 0) (by_table x && by_tree x (tree_of File x.file)) true
 
 abbrev pub all_hold : Bool
-all_hold = all holds stations && (same (compiled File waits) table10 && (all holds further && (all holds contested_stations && (all holds restarted_stations && (all holds silent_stations && all holds empty_stations)))))
+all_hold = all holds stations && (same (compiled File waits) table10 && (all holds further && (all holds contested_stations && (all holds restarted_stations && all holds silent_stations))))
 
 -- Stations 2 and 3 for all: "any settling finishes" after an offer at any time, with any estimate that is allowed; "goals 01 at any first time"
 abbrev pub finishes_with : ℕ → ℕ → Station

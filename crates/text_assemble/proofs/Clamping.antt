@@ -16,8 +16,8 @@ use Rattle.meaning.specs.declared.Operand.{Operand}
 use Rattle.meaning.specs.declared.Entry.{Entry}
 use Rattle.meaning.specs.Sizes.{byte_values, kind_length}
 use Rattle.meaning.specs.Kinds.{Kind, UNKNOWN, GOAL, START, WAIT, SEQ, PAR, MAINTAIN, CHOICE, REPEAT, kind_of, Test, UNTESTED, EQUALS, DIFFERS, AT-LEAST, BELOW, tests, test_of, test_allowed, condition_allowed, goal_allowed, start_allowed, count_allowed, empty_allowed, operand_allowed, arity}
-use Rattle.meaning.specs.Tree.{Part, children, size, Program, empty, rooted, program_size}
-use Rattle.meaning.specs.Program.{entry_allowed, arity_of, preorder, program_entries}
+use Rattle.meaning.specs.Tree.{Part, children, size}
+use Rattle.meaning.specs.Program.{entry_allowed, arity_of, preorder}
 use Rattle.meaning.proofs.Trees.{All, part_ind, entry_of, preorder_law, size_law}
 use Rattle.meaning.proofs.Parsing.{arity_entry}
 use Rattle.text_parts.specs.Stored.{part_length, clamped, stored_entry, stored, Stands}
@@ -183,6 +183,5 @@ counts_part : (p : Part) → All Counts (children p) → Counts p
 counts_part p a n h l =
     rw (preorder_law p, lt-ltb (arity_of (entry_of p)) byte_values (omega (arith, arity_entry p, children_few (children p), size_law p)), counts_all (children p) a n (omega (arith, size_law p)) l)
 
-pub counts_fit : (x : Program) → program_size x < byte_values → all (λ e. ltb (arity_of e) byte_values) (program_entries x) ≡ true
-counts_fit empty h = refl
-counts_fit (rooted p) h = part_ind Counts counts_part p (size p) (omega arith) h
+pub counts_fit : (p : Part) → size p < byte_values → all (λ e. ltb (arity_of e) byte_values) (preorder p) ≡ true
+counts_fit p h = part_ind Counts counts_part p (size p) (omega arith) h

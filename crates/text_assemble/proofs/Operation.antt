@@ -18,13 +18,14 @@ use Rattle.meaning.specs.declared.Refusal.{Refusal}
 use Rattle.meaning.specs.declared.Form.TheVariants.{File}
 use Rattle.meaning.specs.declared.Entry.{Entry}
 use Rattle.meaning.specs.Sizes.{max_parts, max_variables, max_clocks, length_of, no_part, header_length}
-use Rattle.meaning.specs.Tree.{program_size}
-use Rattle.meaning.specs.Program.{sizes_in_range, size_bytes, arrays, parts, variables, clocks, entries, entry_known, entry_allowed, sizes_allowed, program_entries, file_of, program_refusal}
+use Rattle.meaning.specs.Tree.{size}
+use Rattle.meaning.specs.Program.{sizes_in_range, size_bytes, arrays, parts, variables, clocks, entries, entry_known, entry_allowed, sizes_allowed, preorder, file_of, program_refusal}
 use Rattle.meaning.specs.Answers.{answerNumber, bufferTooShort, notAText, sizeOutOfRange, operandNotAllowed}
 use Rattle.meaning.proofs.Answers.{not-refused, refusal-positive}
-use Rattle.meaning.proofs.Files.{length_program, known_program, parts_back, file_entries, length_arrays}
+use Rattle.meaning.proofs.Files.{all_preorder, known_entry, parts_back, file_entries, length_arrays}
+use Rattle.meaning.proofs.Trees.{length_preorder}
 use Rattle.text_grammar.specs.Syntax.{Text}
-use Rattle.text_grammar.specs.Trees.{text_program, text_file}
+use Rattle.text_grammar.specs.Trees.{body_tree, text_file}
 use Rattle.text_grammar.specs.Texts.{max_text_length}
 use Rattle.text_grammar.specs.Tokens.{Token}
 use Rattle.text_grammar.specs.Lexer.{tokens, tokens_from}
@@ -109,7 +110,7 @@ record TextSeen (z b : List ℕ) (n v k : ℕ) (o : Parsed Text) : Type 0 where
   whole_is : whole o ≡ some text
   variables_are : text.variables ≡ v
   clocks_are : text.clocks ≡ k
-  stands : Stands z 0 b n (program_entries (text_program text))
+  stands : Stands z 0 b n (preorder (body_tree text.body))
 
 text_seen : (t z : List ℕ) (r : Reading) (b : List ℕ) (n v k : ℕ) (o : Parsed Text) → ReadsText t z r b o → r ≡ Program n v k → TextSeen z b n v k o
 unfolding ReadsText whole
@@ -117,7 +118,7 @@ text_seen t z r b n v k (got x rest) d h =
     let i : d.parts ≡ n = cc in
     let j : x.variables ≡ v = cc in
     let l : x.clocks ≡ k = cc in
-    record { text = x; whole_is = refl; variables_are = j; clocks_are = l; stands = subst (λ (m : ℕ). Stands z 0 b m (program_entries (text_program x))) i d.stands }
+    record { text = x; whole_is = refl; variables_are = j; clocks_are = l; stands = subst (λ (m : ℕ). Stands z 0 b m (preorder (body_tree x.body))) i d.stands }
 text_seen t z r b n v k (stopped rest) d h = let i : Stops d.place ≡ Program n v k = cc in let w : ◌≡◌ {A = ℕ} 0 1 = cc in absurd (omega arith)
 
 -- the answers, by the reading
@@ -145,10 +146,10 @@ module _ (t out : List ℕ) where
       reading_is : reading t ≡ some s.text
       reading_is = read_as t short ∙ s.whole_is
 
-      size_is : program_size (text_program s.text) ≡ n
-      size_is = sym (length_program (text_program s.text)) ∙ omega (arith, s.stands.parts_are)
+      size_is : size (body_tree s.text.body) ≡ n
+      size_is = sym (length_preorder (body_tree s.text.body)) ∙ omega (arith, s.stands.parts_are)
 
-      sizes_are : sizes_in_range (program_size (text_program s.text)) s.text.variables s.text.clocks ≡ sizes_in_range n v k
+      sizes_are : sizes_in_range (size (body_tree s.text.body)) s.text.variables s.text.clocks ≡ sizes_in_range n v k
       sizes_are = rw (size_is, s.variables_are, s.clocks_are)
 
       pub sizes_refused : (c : Bool) → c ≡ sizes_in_range n v k → not c ≡ true → Assembled t out sizeOutOfRange out
@@ -159,9 +160,10 @@ module _ (t out : List ℕ) where
 pub sizes_small : (n v k : ℕ) (c : Bool) → c ≡ sizes_in_range n v k → not c ≡ false → (n ≤ max_parts) × (v ≤ max_variables) × (k ≤ max_clocks)
 sizes_small n v k c e w =
     let i = sym e ∙ not-false c w in
-    let p = and_right (leb n max_parts) _ i in
-    let q = and_right (leb 1 v) _ p in
-    (leb-true n max_parts (and_left (leb n max_parts) _ i), leb-true v max_variables (and_left (leb v max_variables) _ q), leb-true k max_clocks (and_right (leb v max_variables) _ q))
+    let p = and_right (leb 1 n) _ i in
+    let q = and_right (leb n max_parts) _ p in
+    let r = and_right (leb 1 v) _ q in
+    (leb-true n max_parts (and_left (leb n max_parts) _ p), leb-true v max_variables (and_left (leb v max_variables) _ r), leb-true k max_clocks (and_right (leb v max_variables) _ r))
 
 -- a file of known entries of which one is not allowed
 known_clamped : (e : Entry) → entry_known (clamped_entry e) ≡ entry_known e
@@ -187,19 +189,19 @@ unfit_operands n v k es l h range known allowed =
     unfit (size_bytes n v k ++ arrays es) n v k es (length_arrays (size_bytes n v k) es refl ∙ ap (length_of File) l) p refl refl (file_entries (size_bytes n v k) es d refl (p ∙ sym l)) range known allowed
 
 -- the text's file is refused and written as the packed one is
-module _ (x : Text) (b : List ℕ) (n v k : ℕ) (vs : x.variables ≡ v) (ks : x.clocks ≡ k) (ns : program_size (text_program x) ≡ n)
-    (es-are : packed_entries b n ≡ map clamped_entry (program_entries (text_program x))) (range : sizes_in_range n v k ≡ true) (small : (n ≤ max_parts) × (v ≤ max_variables) × (k ≤ max_clocks)) where
+module _ (x : Text) (b : List ℕ) (n v k : ℕ) (vs : x.variables ≡ v) (ks : x.clocks ≡ k) (ns : size (body_tree x.body) ≡ n)
+    (es-are : packed_entries b n ≡ map clamped_entry (preorder (body_tree x.body))) (range : sizes_in_range n v k ≡ true) (small : (n ≤ max_parts) × (v ≤ max_variables) × (k ≤ max_clocks)) where
   abbrev es : List Entry
-  es = program_entries (text_program x)
+  es = preorder (body_tree x.body)
 
   same_file : all (entry_allowed v k) es ≡ true → packed_file b n v k ≡ text_file x
   unfolding packed_file text_file file_of
-  same_file a = rw (vs, ks, ns, es-are, unclamped v k (omega arith) (omega arith) es a (counts_fit (text_program x) (omega (arith, ns))))
+  same_file a = rw (vs, ks, ns, es-are, unclamped v k (omega arith) (omega arith) es a (counts_fit (body_tree x.body) (omega (arith, ns))))
 
   packed_unfit : all (entry_allowed v k) es ≡ false → program_refusal File (packed_file b n v k) ≡ operandNotAllowed
   unfolding packed_file
   packed_unfit a =
-      unfit_operands n v k (packed_entries b n) (packed_length b n) (omega arith) range (ap (all entry_known) es-are ∙ all_known_lem es (known_program (text_program x)))
+      unfit_operands n v k (packed_entries b n) (packed_length b n) (omega arith) range (ap (all entry_known) es-are ∙ all_known_lem es (all_preorder entry_known known_entry (body_tree x.body)))
       (ap (all (entry_allowed v k)) es-are ∙ all_clamped v k (omega arith) (omega arith) es ∙ a)
 
   text_unfit : all (entry_allowed v k) es ≡ false → program_refusal File (text_file x) ≡ operandNotAllowed
@@ -237,7 +239,7 @@ assembled t out short z r b d n v k h c e w a out' u fits =
     let x = s.text in
     let small = sizes_small n v k c e w in
     let ns = size_is t out short z r b d n v k h in
-    let es = packed_are z b n (program_entries (text_program x)) s.stands (omega (arith, small.0)) in
+    let es = packed_are z b n (preorder (body_tree x.body)) s.stands (omega (arith, small.0)) in
     let range = sym e ∙ not-false c w in
     let q = packed_as_text x b n v k s.variables_are s.clocks_are ns es range small out a out' u in
     let f = refusal_is x b n v k s.variables_are s.clocks_are ns es range small (length out) in

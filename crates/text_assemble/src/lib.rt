@@ -31,7 +31,9 @@ const MAX_STORED: usize = PART * (MAX_PARTS as usize);
 fn sizes_in_range(n: u16, v: u16, k: u16) -> bool
     ensures { result ≡ sizes_in_range n v k }
 {
-    (n <= MAX_PARTS as u16) & ((1 <= v) & ((v <= MAX_VARIABLES as u16) & (k <= MAX_CLOCKS as u16)))
+    (1 <= n)
+        & ((n <= MAX_PARTS as u16)
+            & ((1 <= v) & ((v <= MAX_VARIABLES as u16) & (k <= MAX_CLOCKS as u16))))
 }
 
 // Assembles a text into its program file: refusal 16, then 2, 5, 7 and 8.

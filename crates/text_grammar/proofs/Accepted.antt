@@ -1,4 +1,4 @@
--- Which texts are accepted, and what assembling answers and writes: the text has the refusals of its file, and that file means the text's program.
+-- Which texts are accepted, and what assembling answers and writes: the text has the refusals of its file, and that file means the text's tree.
 use Prim.Native.Nat.{ℕ, ◌≤◌}
 use native.Mathlib.Omega.{arith}
 use mathlib.Core.Path.{◌≡◌, refl, sym, ap, ◌∙◌}
@@ -10,46 +10,51 @@ use lib.Dec.{eqb, leb}
 use lib.ListN.{length, drop}
 use borrow.Author.Tests.{leb-true, le-leb, eq-eqb, ne_eqb}
 use Rattle.base.specs.Lists.{all, any, first_failing, bytes_at}
-use Rattle.base.proofs.Lists.{and_left, none_fails, passed, fails_append}
+use Rattle.base.proofs.Lists.{and_left, and_right, none_fails, passed, fails_append}
 use Rattle.meaning.specs.declared.Form.TheVariants.{File}
 use Rattle.meaning.specs.Sizes.{max_parts, max_depth, no_part, header_length, length_of}
-use Rattle.meaning.specs.Tree.{program_size, program_depth}
-use Rattle.meaning.specs.Program.{parts, variables, clocks, sizes_in_range, sizes_allowed, entries, entry_allowed, program_entries, program_of, program_refusal, file_of}
+use Rattle.meaning.specs.Tree.{Part, size, depth}
+use Rattle.meaning.specs.Program.{parts, variables, clocks, sizes_in_range, sizes_allowed, entries, entry_known, entry_allowed, preorder, tree_of, program_refusal, file_of}
 use Rattle.meaning.specs.Answers.{sizeOutOfRange, operandNotAllowed, tooDeep, bufferTooShort, notAText}
-use Rattle.meaning.proofs.Files.{entries_form, accepted, known_program, file_length, file_parts, file_preorder}
+use Rattle.meaning.proofs.Parsing.{trees_alone}
+use Rattle.meaning.proofs.Files.{accepted, all_preorder, known_entry, file_length, file_parts, file_preorder}
 use Rattle.meaning.proofs.Refusals.{front_written}
 use Rattle.text_grammar.specs.Syntax.{Text}
-use Rattle.text_grammar.specs.Trees.{text_program, text_file}
+use Rattle.text_grammar.specs.Trees.{body_tree, text_file}
 use Rattle.text_grammar.specs.Texts.{Fits}
 use Rattle.text_grammar.specs.Parser.{reading}
 use Rattle.text_grammar.specs.Assembling.{text_tests, assemble_tests, refusal_of, assemble_refusal, file_in, assembled_into}
 use Rattle.text_grammar.proofs.Exact.{reading_exact}
+
+-- the tree of a text
+abbrev tree : Text → Part
+tree x = body_tree x.body
 
 -- the file's sizes say V and K as they are typed
 file_sizes : (x : Text) → (variables (text_file x) ≡ x.variables) × (clocks (text_file x) ≡ x.clocks)
 unfolding text_file file_of
 file_sizes x = (refl, refl)
 
-length_file : (x : Text) → length (text_file x) ≡ length_of File (program_size (text_program x))
+length_file : (x : Text) → length (text_file x) ≡ length_of File (size (tree x))
 unfolding text_file
-length_file x = file_length x.variables x.clocks (text_program x)
+length_file x = file_length x.variables x.clocks (tree x)
 
 -- where the sizes can hold the number of parts
-module _ (x : Text) (fits : program_size (text_program x) ≤ no_part) where
-  parts_are : parts (text_file x) ≡ program_size (text_program x)
+module _ (x : Text) (fits : size (tree x) ≤ no_part) where
+  parts_are : parts (text_file x) ≡ size (tree x)
   unfolding text_file
-  parts_are = file_parts x.variables x.clocks (text_program x) fits
+  parts_are = file_parts x.variables x.clocks (tree x) fits
 
-  entries_are : entries File (text_file x) ≡ program_entries (text_program x)
+  entries_are : entries File (text_file x) ≡ preorder (tree x)
   unfolding text_file
-  entries_are = file_preorder x.variables x.clocks (text_program x) fits
+  entries_are = file_preorder x.variables x.clocks (tree x) fits
 
-  program_is : program_of File (text_file x) ≡ some (text_program x)
-  unfolding program_of
-  program_is = rw entries_are (entries_form (text_program x))
+  tree_is : tree_of File (text_file x) ≡ some (tree x)
+  unfolding tree_of
+  tree_is = rw (entries_are, trees_alone (tree x))
 
 -- "then 2, 5, 7 and 8 as for files"
-pub as_for_files : (x : Text) → program_size (text_program x) ≤ no_part → first_failing (text_tests x) ≡ program_refusal File (text_file x)
+pub as_for_files : (x : Text) → size (body_tree x.body) ≤ no_part → first_failing (text_tests x) ≡ program_refusal File (text_file x)
 unfolding program_refusal sizes_allowed
 as_for_files x fits =
     let n = parts_are x fits in
@@ -62,26 +67,26 @@ as_for_files x fits =
       (file_sizes x).0,
       (file_sizes x).1,
       entries_are x fits,
-      known_program (text_program x),
-      program_is x fits,
+      all_preorder entry_known known_entry (tree x),
+      tree_is x fits,
     )
 
 -- The file of more parts than its sizes can hold is refused: its length is not that of the number which they say
-few_enough : (x : Text) → program_refusal File (text_file x) ≡ 0 → program_size (text_program x) ≤ no_part
+few_enough : (x : Text) → program_refusal File (text_file x) ≡ 0 → size (tree x) ≤ no_part
 few_enough x h =
     let a = (accepted File (text_file x) h).2 in
     omega (arith, length_file x, a.length_is, a.parts_are, a.within.size_fits)
 
--- "The program file comes out": the file of the program that the text means, with V and K as typed
-pub text_program_lem : (x : Text) → program_refusal File (text_file x) ≡ 0
-    → (program_of File (text_file x) ≡ some (text_program x)) × (variables (text_file x) ≡ x.variables) × (clocks (text_file x) ≡ x.clocks)
-text_program_lem x h = (program_is x (few_enough x h), (file_sizes x).0, (file_sizes x).1)
+-- "The program file comes out": the file of the tree that the text means, with V and K as typed
+pub text_tree : (x : Text) → program_refusal File (text_file x) ≡ 0
+    → (tree_of File (text_file x) ≡ some (body_tree x.body)) × (variables (text_file x) ≡ x.variables) × (clocks (text_file x) ≡ x.clocks)
+text_tree x h = (tree_is x (few_enough x h), (file_sizes x).0, (file_sizes x).1)
 
 module _ (x : Text) (room : ℕ) where
   tests_pass : first_failing (assemble_tests x room) ≡ 0 → (program_refusal File (text_file x) ≡ 0) × (length (text_file x) ≤ room)
   tests_pass h =
       let w = none_fails (assemble_tests x room) refl h in
-      let n = leb-true (program_size (text_program x)) max_parts (and_left (leb (program_size (text_program x)) max_parts) _ w.0) in
+      let n = leb-true (size (tree x)) max_parts (and_left (leb (size (tree x)) max_parts) _ (and_right (leb 1 (size (tree x))) _ w.0)) in
       (sym (as_for_files x (omega arith)) ∙ passed (text_tests x) (w.0, (w.1.0, (w.1.1.0, tt))), leb-true (length (text_file x)) room w.1.1.1.0)
 
   tests_passed : program_refusal File (text_file x) ≡ 0 → length (text_file x) ≤ room → first_failing (assemble_tests x room) ≡ 0
@@ -118,7 +123,7 @@ text_refusals t room = of (reading t)
     of : (o : Option Text) → any (eqb (refusal_of o room)) answers ≡ true
     of none = refl
     of (some x) =
-        first (sizes_in_range (program_size (text_program x)) x.variables x.clocks) (all (entry_allowed x.variables x.clocks) (program_entries (text_program x))) (leb (program_depth (text_program x)) max_depth) (leb (length (text_file x)) room)
+        first (sizes_in_range (size (tree x)) x.variables x.clocks) (all (entry_allowed x.variables x.clocks) (preorder (tree x))) (leb (depth (tree x)) max_depth) (leb (length (text_file x)) room)
 
 -- "The program file comes out", and further bytes of the buffer are untouched
 pub file_written : (t out : List ℕ) (x : Text) → Fits t x → assemble_refusal t (length out) ≡ 0

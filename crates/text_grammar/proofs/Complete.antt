@@ -1,14 +1,11 @@
 -- What is written is parsed.
-use Prim.Native.Nat.{◌<◌}
 use mathlib.Core.Path.{◌≡◌, refl, sym}
 use mathlib.Core.Bool.{true, false, false≢true}
 use mathlib.Core.List.{List, [], ◌∷◌}
-use lib.ListN.{length}
-use native.Mathlib.Omega.{arith}
 use Rattle.text_grammar.specs.Tokens.{Mark, mark-discrete, thenWord, elseWord, equalSign, semicolon, comma, closing, Token, mark, number, variable, clock, unknown}
-use Rattle.text_grammar.specs.Syntax.{Condition, variableEquals, variableDiffers, clockAtLeast, clockBelow, Step, goal_step, start_step, wait_step, maintain_step, repeat_step, if_step, bracketed, Sequence, one_step, more_steps, Body, one_sequence, more_sequences, Content, no_body, with_body, Text, write_condition, write_step, write_sequence, write_body, write_content, write_text}
-use Rattle.text_grammar.specs.Parser.{got, bind, when, on_mark, parse_number, parse_clock, parse_value, parse_condition, sequence_rest, body_rest, close_group, parse_branches, parse_step, parse_sequence, parse_body, parse_content, end_text, parse_text}
-use Rattle.text_grammar.proofs.Parsing.{body_longer, sequence_law, body_law, goal_law, start_law, wait_law, maintain_law, repeat_law, if_law, group_law}
+use Rattle.text_grammar.specs.Syntax.{Condition, variableEquals, variableDiffers, clockAtLeast, clockBelow, Step, goal_step, start_step, wait_step, maintain_step, repeat_step, if_step, bracketed, Sequence, one_step, more_steps, Body, one_sequence, more_sequences, Text, write_condition, write_step, write_sequence, write_body, write_text}
+use Rattle.text_grammar.specs.Parser.{got, bind, when, on_mark, parse_number, parse_clock, parse_value, parse_condition, sequence_rest, body_rest, close_group, parse_branches, parse_step, parse_sequence, parse_body, end_text, parse_text}
+use Rattle.text_grammar.proofs.Parsing.{sequence_law, body_law, goal_law, start_law, wait_law, maintain_law, repeat_law, if_law, group_law}
 
 condition_read : (o : Condition) (rest : List Token) → parse_condition (write_condition o rest) ≡ got o rest
 unfolding parse_condition write_condition on_mark parse_value parse_number bind
@@ -65,17 +62,6 @@ mutual
   body_read (more_sequences q b) rest e i =
       rw (body_law (write_sequence q (mark comma ∷ write_body b rest)), sequence_read q (mark comma ∷ write_body b rest) refl, body_read b rest e i)
 
--- where a token follows the colon, a body is read
-content_law : (ts : List Token) → 0 < length ts → parse_content ts ≡ bind (parse_body ts) (λ b rest. got (with_body b) rest)
-unfolding parse_content
-content_law [] h = absurd (omega arith)
-content_law (t ∷ ts) h = refl
-
-content_read : (c : Content) → parse_content (write_content c []) ≡ got c []
-unfolding parse_content write_content bind on_mark
-content_read no_body = refl
-content_read (with_body b) = rw (content_law (write_body b []) (body_longer b []), body_read b [] refl refl)
-
 pub text_read_lem : (x : Text) → parse_text (write_text x) ≡ got x []
 unfolding parse_text write_text parse_number on_mark bind end_text
-text_read_lem x = rw (content_read x.content)
+text_read_lem x = rw (body_read x.body [] refl refl)

@@ -2,27 +2,54 @@
 use Prim.Native.Nat.{ℕ}
 use mathlib.Core.Path.{◌≡◌, refl, ap, subst, ◌∙◌}
 use mathlib.Core.Bool.{Bool, true, false, cond}
-use mathlib.Core.List.{List}
+use mathlib.Core.List.{List, [], ◌∷◌}
 use mathlib.Core.Logic.{◌↔◌}
 use mathlib.Core.Option.{Option, none, some}
 use lib.Dec.{leb}
 use lib.ListN.{length}
 use native.Mathlib.Omega.{arith}
 use borrow.Author.Tests.{leb-true, le-leb}
-use Rattle.text_grammar.specs.Tokens.{Token, Spelled}
-use Rattle.text_grammar.specs.Syntax.{Text, write_text}
+use Rattle.text_grammar.specs.Tokens.{thenWord, elseWord, semicolon, comma, closing, Token, mark, unknown, is_known, Spelled}
+use Rattle.text_grammar.specs.Syntax.{Condition, variableEquals, variableDiffers, clockAtLeast, clockBelow, Step, goal_step, start_step, wait_step, maintain_step, repeat_step, if_step, bracketed, Sequence, one_step, more_steps, Body, one_sequence, more_sequences, Text, write_condition, write_step, write_sequence, write_body, write_text}
 use Rattle.text_grammar.specs.Texts.{max_text_length, Fits}
 use Rattle.text_grammar.specs.Lexer.{tokens}
 use Rattle.text_grammar.specs.Parser.{Parsed, got, stopped, parse_text, whole, reading}
 use Rattle.text_grammar.proofs.Spelling.{all_known, found, spelled_out}
-use Rattle.text_grammar.proofs.Writing.{text_kept}
 use Rattle.text_grammar.proofs.Sound.{Written, text_written}
 use Rattle.text_grammar.proofs.Complete.{text_read_lem}
 
 -- nothing is written with an unknown token
+condition_known : (o : Condition) (rest : List Token) → all_known (write_condition o rest) ≡ all_known rest
+unfolding write_condition all_known is_known
+condition_known (variableEquals v n) rest = refl
+condition_known (variableDiffers v n) rest = refl
+condition_known (clockAtLeast c n) rest = refl
+condition_known (clockBelow c n) rest = refl
+
+mutual
+  unfolding write_step write_sequence write_body all_known is_known
+
+  step_known : (s : Step) (rest : List Token) → all_known (write_step s rest) ≡ all_known rest
+  step_known (goal_step v n) rest = refl
+  step_known (start_step c) rest = refl
+  step_known (wait_step o) rest = condition_known o rest
+  step_known (maintain_step o s) rest = condition_known o (write_step s rest) ∙ step_known s rest
+  step_known (repeat_step s) rest = step_known s rest
+  step_known (if_step o s u) rest =
+      condition_known o (mark thenWord ∷ write_step s (mark elseWord ∷ write_step u rest)) ∙ step_known s (mark elseWord ∷ write_step u rest) ∙ step_known u rest
+  step_known (bracketed b) rest = body_known b (mark closing ∷ rest)
+
+  sequence_known : (q : Sequence) (rest : List Token) → all_known (write_sequence q rest) ≡ all_known rest
+  sequence_known (one_step s) rest = step_known s rest
+  sequence_known (more_steps s q) rest = step_known s (mark semicolon ∷ write_sequence q rest) ∙ sequence_known q rest
+
+  body_known : (b : Body) (rest : List Token) → all_known (write_body b rest) ≡ all_known rest
+  body_known (one_sequence q) rest = sequence_known q rest
+  body_known (more_sequences q b) rest = sequence_known q (mark comma ∷ write_body b rest) ∙ body_known b rest
+
 text_known : (x : Text) → all_known (write_text x) ≡ true
-unfolding all_known
-text_known x = text_kept all_known (λ t ts known closed. rw known) x
+unfolding write_text all_known is_known
+text_known x = body_known x.body []
 
 whole_written : (ts : List Token) (o : Parsed Text) (x : Text) → Written (λ y rest. write_text y) ts o → whole o ≡ some x → ts ≡ write_text x
 unfolding whole

@@ -1,4 +1,4 @@
--- The examples of document 02's R-5 and R-6, computed by the definitions.
+-- The examples of document 02's R-5, computed by the definitions.
 use Prim.Native.Nat.{ℕ, ◌+◌, ◌*◌}
 use Prim.Native.Char.{code}
 use Prim.Native.String.{String}
@@ -10,14 +10,14 @@ use Rattle.meaning.specs.Program.{preorder, file_of}
 use Rattle.meaning.proofs.Computed.{◌gets◌, Holds, read}
 use Rattle.text_grammar.specs.Characters.{bytes, is_blank, is_digit, is_word_byte}
 use Rattle.text_grammar.specs.Tokens.{Mark, startWord, waitWord, maintainWord, repeatWord, ifWord, thenWord, elseWord, equalSign, differsSign, atLeastSign, belowSign, semicolon, comma, opening, closing, colon, Token, mark, number, variable, clock, unknown, spelling, decimal_from, leading_zero, is_number, named_token, token_among, token_of}
-use Rattle.text_grammar.specs.Trees.{test_number, condition_operand, step_tree, sequence_tree, step_trees, body_tree, sequence_trees, content_program, text_file}
+use Rattle.text_grammar.specs.Trees.{test_number, condition_operand, step_tree, sequence_tree, step_trees, body_tree, sequence_trees, text_file}
 use Rattle.text_grammar.specs.Lexer.{joins, end_run, begin_run, tokens_after, tokens}
-use Rattle.text_grammar.specs.Parser.{bind, on_mark, parse_number, parse_clock, parse_value, parse_condition, sequence_rest, body_rest, close_group, parse_branches, step_within, sequence_within, body_within, parse_body, parse_content, end_text, parse_text, whole, reading}
+use Rattle.text_grammar.specs.Parser.{bind, on_mark, parse_number, parse_clock, parse_value, parse_condition, sequence_rest, body_rest, close_group, parse_branches, step_within, sequence_within, body_within, parse_body, end_text, parse_text, whole, reading}
 use Rattle.text_grammar.specs.Assembling.{refusal_of, assemble_refusal, file_in, assembled_into}
 
 -- The refusal of a text, 0 where there is none. To unfold this is to unfold all that it, and the file that comes out, are computed with
 unfoldable pub assemble : List ℕ → ℕ → ℕ
-unfolding read is_blank is_digit is_word_byte spelling decimal_from leading_zero is_number named_token token_among token_of joins end_run begin_run tokens_after tokens bind on_mark parse_number parse_clock parse_value parse_condition sequence_rest body_rest close_group parse_branches step_within sequence_within body_within parse_body parse_content end_text parse_text whole reading test_number condition_operand step_tree sequence_tree step_trees body_tree sequence_trees content_program text_file preorder file_of refusal_of assemble_refusal file_in assembled_into
+unfolding read is_blank is_digit is_word_byte spelling decimal_from leading_zero is_number named_token token_among token_of joins end_run begin_run tokens_after tokens bind on_mark parse_number parse_clock parse_value parse_condition sequence_rest body_rest close_group parse_branches step_within sequence_within body_within parse_body end_text parse_text whole reading test_number condition_operand step_tree sequence_tree step_trees body_tree sequence_trees text_file preorder file_of refusal_of assemble_refusal file_in assembled_into
 assemble t room = assemble_refusal t room
 
 -- a buffer larger than any file here
@@ -38,10 +38,6 @@ refused n = (n, buffer)
 -- the file of GOAL 0=1
 abbrev goal : List ℕ
 goal = 1 ∷ 1 ∷ 1 ∷ 1 ∷ 0 ∷ 0 ∷ 1 ∷ 0 ∷ []
-
--- "the three sizes alone"
-abbrev no_parts : List ℕ
-no_parts = 0 ∷ 1 ∷ 1 ∷ []
 
 -- Texts by what document 02 says of them
 pub examples : Holds
@@ -129,39 +125,14 @@ pub examples : Holds
     ∷ assembling "" gets refused 16
     ∷ assembling "1" gets refused 16
     ∷ assembling "1 1" gets refused 16
+    ∷ assembling "1 1:" gets refused 16
+    ∷ assembling "1 1: \n" gets refused 16
     ∷ assembling "1:v0=1" gets refused 16
     ∷ assembling ":v0=1" gets refused 16
-    ∷ assembling "1:" gets refused 16
-    ∷ assembling ":" gets refused 16
     ∷ assembling "1 1 1:v0=1" gets refused 16
     ∷ assembling "1 1;v0=1" gets refused 16
     ∷ assembling "v0 c0:v0=1" gets refused 16
     ∷ assembling "1 1:1 1:v0=1" gets refused 16
-    -- "A text with nothing but spaces and line ends after the colon gives this file; empty brackets still get 16" (R-6)
-    ∷ assembling "1 1:" gets file no_parts
-    ∷ assembling "1 1: \n " gets file no_parts
-    ∷ assembling "\n1 1 :\n\n" gets file no_parts
-    ∷ assembling "32 16:" gets file (0 ∷ 32 ∷ 16 ∷ [])
-    ∷ assembling "0 1:" gets refused 2
-    ∷ assembling "33 1:" gets refused 2
-    ∷ assembling "256 1:" gets refused 2
-    ∷ assembling "1 17:" gets refused 2
-    ∷ assembling "1 256: \n" gets refused 2
-    ∷ assembling "1 1:\t" gets refused 16
-    ∷ assembling "1 1::" gets refused 16
-    ∷ assembling "1 1:1 1:" gets refused 16
-    ∷ assembling "1 1:()" gets refused 16
-    ∷ assembling "1 1:( \n )" gets refused 16
-    ∷ assembling "1 1:(())" gets refused 16
-    ∷ assembling "1 1:();v0=1" gets refused 16
-    ∷ assembling "1 1:v0=1;()" gets refused 16
-    ∷ assembling "1 1:v0=1,()" gets refused 16
-    ∷ assembling "1 1:(v0=1;())" gets refused 16
-    ∷ assembling "1 1:repeat()" gets refused 16
-    ∷ assembling "1 1:if v0=1 then()else()" gets refused 16
-    ∷ assembling "1 1:;" gets refused 16
-    ∷ assembling "1 1:," gets refused 16
-    ∷ assembling "0 1:()" gets refused 16
     -- "Prefix words bind tightest, then `;` (SEQ), then `,` (PAR)"
     ∷ assembling "1 1:repeat v0=1;v0=2" gets file (4 ∷ 1 ∷ 1 ∷ 4 ∷ 8 ∷ 1 ∷ 1 ∷ 2 ∷ 0 ∷ 0 ∷ 0 ∷ 0 ∷ 0 ∷ 0 ∷ 0 ∷ 0 ∷ 0 ∷ 1 ∷ 0 ∷ 0 ∷ 0 ∷ 2 ∷ 0 ∷ [])
     ∷ assembling "1 1:maintain c0<5 v0=1,v0=2" gets file (4 ∷ 1 ∷ 1 ∷ 5 ∷ 6 ∷ 1 ∷ 1 ∷ 2 ∷ 0 ∷ 0 ∷ 0 ∷ 4 ∷ 0 ∷ 5 ∷ 0 ∷ 0 ∷ 0 ∷ 1 ∷ 0 ∷ 0 ∷ 0 ∷ 2 ∷ 0 ∷ [])
@@ -182,9 +153,11 @@ pub examples : Holds
     ∷ assembling "1 1:v0=1,(v0=2,v0=3)" gets file (5 ∷ 1 ∷ 1 ∷ 5 ∷ 1 ∷ 5 ∷ 1 ∷ 1 ∷ 2 ∷ 0 ∷ 0 ∷ 0 ∷ 0 ∷ 0 ∷ 1 ∷ 0 ∷ 2 ∷ 0 ∷ 0 ∷ 0 ∷ 0 ∷ 0 ∷ 2 ∷ 0 ∷ 0 ∷ 0 ∷ 3 ∷ 0 ∷ [])
     ∷ assembling "1 1:(v0=1)" gets file goal
     ∷ assembling "1 1:((v0=1;v0=2))" gets file (3 ∷ 1 ∷ 1 ∷ 4 ∷ 1 ∷ 1 ∷ 2 ∷ 0 ∷ 0 ∷ 0 ∷ 0 ∷ 0 ∷ 1 ∷ 0 ∷ 0 ∷ 0 ∷ 2 ∷ 0 ∷ [])
+    ∷ assembling "1 1:()" gets refused 16
+    ∷ assembling "1 1:v0=1;()" gets refused 16
+    ∷ assembling "1 1:repeat()" gets refused 16
+    ∷ assembling "1 1:;" gets refused 16
     ∷ assembling "1 1:v0=1;" gets refused 16
-    ∷ assembling "1 1:v0=1," gets refused 16
-    ∷ assembling "1 1:(v0=1;)" gets refused 16
     ∷ assembling "1 1:,v0=1" gets refused 16
     ∷ assembling "1 1:v0=1;,v0=2" gets refused 16
     ∷ assembling "1 1:v0=1 v0=2" gets refused 16
@@ -246,9 +219,6 @@ pub bounds : Holds
     ∷ assemble (bytes "1 1:v0=1") 7 gets 8
     ∷ assemble (bytes "1 1: start c0 ; wait c0>=10") 18 gets 0
     ∷ assemble (bytes "1 1: start c0 ; wait c0>=10") 17 gets 8
-    ∷ assemble (bytes "1 1:") 3 gets 0
-    ∷ assemble (bytes "1 1:") 2 gets 8
-    ∷ assemble (bytes "0 1:") 0 gets 2
     ∷ assemble (bytes "1 1:v0") 0 gets 16
     ∷ assemble (bytes "0 1:v0=1") 0 gets 2
     ∷ assemble (bytes "1 1:v1=1") 0 gets 5
@@ -266,8 +236,6 @@ pub bounds : Holds
     ∷ assemble (repeats "1 1:" 200 "v0=1") 2000 gets 2  -- too many parts, and too deep
     ∷ assemble (spaces 16376) 8 gets 0  -- "at most 16,384 bytes"
     ∷ assemble (spaces 16377) 8 gets 16
-    ∷ assemble (bytes "1 1:" ++ replicate 16380 (code " ")) 3 gets 0
-    ∷ assemble (bytes "1 1:" ++ replicate 16381 (code " ")) 3 gets 16
     ∷ assemble (brackets 100) 8 gets 0  -- brackets have no depth of their own
     ∷ [])
 unfolding assemble

@@ -1,10 +1,8 @@
 pub mod Lexing
 pub mod Spelling
-pub mod Writing
 pub mod Sound
 pub mod Parsing
 pub mod Complete
 pub mod Exact
 pub mod Accepted
-pub mod NoParts
 pub mod Examples

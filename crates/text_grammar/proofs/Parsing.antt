@@ -35,7 +35,7 @@ mutual
   sequence_longer (one_step s) rest = step_longer s rest
   sequence_longer (more_steps s q) rest = omega (arith, step_longer s (mark semicolon ∷ write_sequence q rest), sequence_longer q rest)
 
-  pub body_longer : (b : Body) (rest : List Token) → length rest < length (write_body b rest)
+  body_longer : (b : Body) (rest : List Token) → length rest < length (write_body b rest)
   body_longer (one_sequence q) rest = sequence_longer q rest
   body_longer (more_sequences q b) rest = omega (arith, sequence_longer q (mark comma ∷ write_body b rest), body_longer b rest)
 

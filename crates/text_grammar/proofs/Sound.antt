@@ -3,8 +3,8 @@ use Prim.Native.Nat.{ℕ, zero, suc}
 use mathlib.Core.Path.{◌≡◌, refl, ap, ◌∙◌}
 use mathlib.Core.List.{List, [], ◌∷◌}
 use Rattle.text_grammar.specs.Tokens.{Mark, mark-discrete, startWord, waitWord, maintainWord, repeatWord, ifWord, thenWord, elseWord, equalSign, differsSign, atLeastSign, belowSign, semicolon, comma, opening, closing, colon, Token, mark, number, variable, clock, unknown}
-use Rattle.text_grammar.specs.Syntax.{variableEquals, variableDiffers, clockAtLeast, clockBelow, Step, goal_step, maintain_step, repeat_step, Text, write_condition, write_step, write_sequence, write_body, write_content, write_text}
-use Rattle.text_grammar.specs.Parser.{Parsed, got, stopped, bind, when, on_mark, parse_number, parse_clock, parse_value, parse_condition, sequence_rest, body_rest, close_group, parse_branches, step_within, sequence_within, body_within, calls_for, parse_body, parse_content, end_text, parse_text}
+use Rattle.text_grammar.specs.Syntax.{variableEquals, variableDiffers, clockAtLeast, clockBelow, Step, goal_step, maintain_step, repeat_step, Text, write_condition, write_step, write_sequence, write_body, write_text}
+use Rattle.text_grammar.specs.Parser.{Parsed, got, stopped, bind, when, on_mark, parse_number, parse_clock, parse_value, parse_condition, sequence_rest, body_rest, close_group, parse_branches, step_within, sequence_within, body_within, calls_for, parse_body, end_text, parse_text}
 
 -- A reading of `ts` that is written, by w, as these tokens
 abbrev pub Written : {A : Type 0} → (A → List Token → List Token) → List Token → Parsed A → Type 0
@@ -158,12 +158,6 @@ mutual
       (λ rest i. written_bind write_body ts write_body rest (body_within f rest) _ (body_written f rest)
       (λ b end j. e ∙ ap (write_sequence q) (i ∙ marked comma j))) e)
 
-content_written : (ts : List Token) → Written write_content ts (parse_content ts)
-unfolding parse_content parse_body write_content
-content_written [] = refl
-content_written (t ∷ ts) =
-    written_bind write_content (t ∷ ts) write_body (t ∷ ts) (parse_body (t ∷ ts)) _ (body_written (calls_for (t ∷ ts)) (t ∷ ts)) (λ b end e. e)
-
 -- a text, and nothing after it
 abbrev write_all : Text → List Token → List Token
 write_all x rest = write_text x
@@ -174,11 +168,11 @@ end_written ts [] x h = h refl
 end_written ts (u ∷ us) x h = tt
 
 pub text_written : (ts : List Token) → Written write_all ts (parse_text ts)
-unfolding parse_text write_text
+unfolding parse_text parse_body write_text
 text_written ts =
     written_bind write_all ts write_number ts (parse_number ts) _ (number_written ts)
     (λ v after e. written_bind write_all ts write_number after (parse_number after) _ (number_written after)
     (λ k after i. written_mark write_all ts colon after _ _
-    (λ rest j. written_bind write_all ts write_content rest (parse_content rest) _ (content_written rest)
-    (λ c end l. end_written ts end _
-    (λ z. e ∙ ap (write_number v) (i ∙ ap (write_number k) (j ∙ marked colon (l ∙ ap (write_content c) z)))))) tt))
+    (λ rest j. written_bind write_all ts write_body rest (parse_body rest) _ (body_written (calls_for rest) rest)
+    (λ b end l. end_written ts end _
+    (λ z. e ∙ ap (write_number v) (i ∙ ap (write_number k) (j ∙ marked colon (l ∙ ap (write_body b) z)))))) tt))

@@ -4,20 +4,20 @@ use Rattle.std.proofs.Math.Option.{Option, none, some}
 use Rattle.std.proofs.lemmas.List.Edits.{sets}
 use Rattle.base.specs.Lists.{all, first_failing}
 use Rattle.meaning.specs.Sizes.{max_depth}
-use Rattle.meaning.specs.Tree.{program_size, program_depth}
-use Rattle.meaning.specs.Program.{sizes_in_range, entry_allowed, program_entries}
+use Rattle.meaning.specs.Tree.{size, depth}
+use Rattle.meaning.specs.Program.{sizes_in_range, entry_allowed, preorder}
 use Rattle.meaning.specs.Answers.{sizeOutOfRange, operandNotAllowed, tooDeep, bufferTooShort, notAText}
 use Rattle.text_grammar.specs.Syntax.{Text}
-use Rattle.text_grammar.specs.Trees.{text_program, text_file}
+use Rattle.text_grammar.specs.Trees.{body_tree, text_file}
 use Rattle.text_grammar.specs.Parser.{reading}
 
 -- "then 2, 5, 7 and 8 as for files": the tests that the program of a text must pass, over the numbers as they are typed. proofs/Accepted.antt says
 -- that these are the refusals of its file
 abbrev pub text_tests : Text → List (ℕ × Bool)
 text_tests x =
-    (sizeOutOfRange, sizes_in_range (program_size (text_program x)) x.variables x.clocks)
-    ∷ (operandNotAllowed, all (entry_allowed x.variables x.clocks) (program_entries (text_program x)))
-    ∷ (tooDeep, leb (program_depth (text_program x)) max_depth)
+    (sizeOutOfRange, sizes_in_range (size (body_tree x.body)) x.variables x.clocks)
+    ∷ (operandNotAllowed, all (entry_allowed x.variables x.clocks) (preorder (body_tree x.body)))
+    ∷ (tooDeep, leb (depth (body_tree x.body)) max_depth)
     ∷ []
 
 abbrev pub assemble_tests : Text → ℕ → List (ℕ × Bool)

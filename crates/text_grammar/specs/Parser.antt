@@ -2,7 +2,7 @@
 use Rattle.std.specs.Prelude.{ℕ, zero, suc, ◌+◌, ◌*◌, cond, List, [], ◌∷◌, leb, length}
 use Rattle.std.proofs.Math.Option.{Option, none, some}
 use Rattle.text_grammar.specs.Tokens.{Mark, mark-discrete, startWord, waitWord, maintainWord, repeatWord, ifWord, thenWord, elseWord, equalSign, differsSign, atLeastSign, belowSign, semicolon, comma, opening, closing, colon, Token, mark, number, variable, clock, unknown}
-use Rattle.text_grammar.specs.Syntax.{Condition, variableEquals, variableDiffers, clockAtLeast, clockBelow, Step, goal_step, start_step, wait_step, maintain_step, repeat_step, if_step, bracketed, Sequence, one_step, more_steps, Body, one_sequence, more_sequences, Content, no_body, with_body, Text}
+use Rattle.text_grammar.specs.Syntax.{Condition, variableEquals, variableDiffers, clockAtLeast, clockBelow, Step, goal_step, start_step, wait_step, maintain_step, repeat_step, if_step, bracketed, Sequence, one_step, more_steps, Body, one_sequence, more_sequences, Text}
 use Rattle.text_grammar.specs.Texts.{max_text_length}
 use Rattle.text_grammar.specs.Lexer.{tokens}
 
@@ -125,11 +125,6 @@ parse_sequence ts = sequence_within (calls_for ts) ts
 unfoldable pub parse_body : List Token → Parsed Body
 parse_body ts = body_within (calls_for ts) ts
 
--- what follows the colon: a body, unless nothing does
-unfoldable pub parse_content : List Token → Parsed Content
-parse_content [] = got no_body []
-parse_content (t ∷ ts) = bind (parse_body (t ∷ ts)) (λ b rest. got (with_body b) rest)
-
 -- nothing follows the text
 unfoldable pub end_text : Text → List Token → Parsed Text
 end_text x [] = got x []
@@ -140,8 +135,8 @@ parse_text ts =
     bind (parse_number ts)
     (λ v rest. bind (parse_number rest)
     (λ k rest. expect colon rest
-    (λ rest. bind (parse_content rest)
-    (λ c rest. end_text (record { variables = v; clocks = k; content = c }) rest))))
+    (λ rest. bind (parse_body rest)
+    (λ b rest. end_text (record { variables = v; clocks = k; body = b }) rest))))
 
 unfoldable pub whole : Parsed Text → Option Text
 whole (got x rest) = some x

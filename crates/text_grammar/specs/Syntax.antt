@@ -7,8 +7,8 @@ pub data Condition : Type 0 where
   variableEquals variableDiffers clockAtLeast clockBelow : ℕ → ℕ → Condition
 
 -- "Steps are `v0=1` (goal), `start c0`, `wait` and a condition, `maintain` condition step, `repeat` step, and `if` condition `then` step `else` step."
--- "A step may be a whole text, without its sizes and colon, in round brackets", but "empty brackets still get 16" (document 02, R-6). "Prefix words
--- bind tightest, then `;` (SEQ), then `,` (PAR)": a sequence is of steps, and a body of sequences
+-- "A step may be a whole text, without its sizes and colon, in round brackets". "Prefix words bind tightest, then `;` (SEQ), then `,` (PAR)": a
+-- sequence is of steps, and a body of sequences
 mutual
   pub data Step : Type 0 where
     goal_step : ℕ → ℕ → Step
@@ -27,16 +27,11 @@ mutual
     one_sequence : Sequence → Body
     more_sequences : Sequence → Body → Body
 
--- What stands after the colon: a body, or "nothing but spaces and line ends" (document 02, R-6)
-pub data Content : Type 0 where
-  no_body : Content
-  with_body : Body → Content
-
 -- "V and K come before the colon"
 pub record Text : Type 0 where
   pub variables : ℕ
   pub clocks : ℕ
-  pub content : Content
+  pub body : Body
 
 -- The tokens of each form, and then those that follow it
 unfoldable pub write_condition : Condition → List Token → List Token
@@ -63,9 +58,5 @@ unfoldable mutual
   write_body (one_sequence q) rest = write_sequence q rest
   write_body (more_sequences q b) rest = write_sequence q (mark comma ∷ write_body b rest)
 
-unfoldable pub write_content : Content → List Token → List Token
-write_content no_body rest = rest
-write_content (with_body b) rest = write_body b rest
-
 unfoldable pub write_text : Text → List Token
-write_text x = number x.variables ∷ number x.clocks ∷ mark colon ∷ write_content x.content []
+write_text x = number x.variables ∷ number x.clocks ∷ mark colon ∷ write_body x.body []

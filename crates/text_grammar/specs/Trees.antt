@@ -1,11 +1,11 @@
--- The program that a text means: a tree of parts or no parts, and its program file.
+-- The program that a text means: a tree of parts, and its program file.
 use Rattle.std.specs.Prelude.{ℕ, ◌/◌, ◌%◌, List}
 use Rattle.meaning.specs.declared.Operand.{Operand}
 use Rattle.meaning.specs.Sizes.{byte_values}
 use Rattle.meaning.specs.Kinds.{Test, UNTESTED, EQUALS, DIFFERS, AT-LEAST, BELOW}
-use Rattle.meaning.specs.Tree.{Part, Parts, goal, start, wait, seq, par, maintain, choice, repeat, one, more, Program, empty, rooted}
+use Rattle.meaning.specs.Tree.{Part, Parts, goal, start, wait, seq, par, maintain, choice, repeat, one, more}
 use Rattle.meaning.specs.Program.{file_of}
-use Rattle.text_grammar.specs.Syntax.{Condition, variableEquals, variableDiffers, clockAtLeast, clockBelow, Step, goal_step, start_step, wait_step, maintain_step, repeat_step, if_step, bracketed, Sequence, one_step, more_steps, Body, one_sequence, more_sequences, Content, no_body, with_body, Text}
+use Rattle.text_grammar.specs.Syntax.{Condition, variableEquals, variableDiffers, clockAtLeast, clockBelow, Step, goal_step, start_step, wait_step, maintain_step, repeat_step, if_step, bracketed, Sequence, one_step, more_steps, Body, one_sequence, more_sequences, Text}
 
 -- The number of a test: "1 (variable equals value), 2 (differs), 3 (clock reads at least value) or 4 (reads below value)"
 unfoldable pub test_number : Test → ℕ
@@ -54,14 +54,6 @@ unfoldable mutual
   sequence_trees (one_sequence q) = one (sequence_tree q)
   sequence_trees (more_sequences q b) = more (sequence_tree q) (sequence_trees b)
 
--- "A text with nothing but spaces and line ends after the colon gives this file" (document 02, R-6): that of a program of no parts
-unfoldable pub content_program : Content → Program
-content_program no_body = empty
-content_program (with_body b) = rooted (body_tree b)
-
-abbrev pub text_program : Text → Program
-text_program x = content_program x.content
-
 -- "The program file comes out"
 unfoldable pub text_file : Text → List ℕ
-text_file x = file_of x.variables x.clocks (text_program x)
+text_file x = file_of x.variables x.clocks (body_tree x.body)

@@ -5,12 +5,12 @@ use mathlib.Core.List.{List, [], ◌∷◌}
 use lib.ListN.{length}
 use native.Mathlib.Omega.{arith}
 use Rattle.meaning.specs.declared.Entry.{Entry}
-use Rattle.meaning.specs.Program.{preorder, program_entries}
+use Rattle.meaning.specs.Program.{preorder}
 use Rattle.text_grammar.specs.Tokens.{colon, Token}
-use Rattle.text_grammar.specs.Syntax.{Body, with_body, Text}
-use Rattle.text_grammar.specs.Trees.{body_tree, content_program, text_program}
+use Rattle.text_grammar.specs.Syntax.{Text, Body}
+use Rattle.text_grammar.specs.Trees.{body_tree}
 use Rattle.text_grammar.specs.Lexer.{tokens, tokens_from}
-use Rattle.text_grammar.specs.Parser.{Parsed, got, stopped, bind, expect, parse_number, parse_body, parse_content, end_text, parse_text}
+use Rattle.text_grammar.specs.Parser.{Parsed, got, stopped, bind, expect, parse_number, parse_body, end_text, parse_text}
 use Rattle.text_grammar.proofs.Parsing.{bind-same}
 use Rattle.text_stops.specs.Places.{cut_at}
 use Rattle.text_tokens.specs.First.{mark_number, no_token, kind_of_first, first_value, Passed}
@@ -93,20 +93,6 @@ unfolding end_text kind_of_first
 text_goes_on x [] h = absurd (h refl)
 text_goes_on x (t ∷ ts) h = refl
 
--- `read_program`, where nothing follows the colon
-pub nothing_more : (t b : List ℕ) (from v k kind : ℕ) → kind ≡ kind_of_first (tokens_from t from) → kind ≡ 20 → ReadsText t b (Program 0 v k) b (parse_program v k (tokens_from t from))
-unfolding parse_program parse_content bind end_text ReadsText content_program
-nothing_more t b from v k kind i g =
-    rw (first_none (tokens_from t from) (sym i ∙ g))
-    (record { parts = 0; answer_is = refl; stands = record { buffer_is = refl; parts_are = refl } })
-
--- where a token does, a body is read
-program_law : (v k : ℕ) (ts : List Token) → (kind_of_first ts ≡ no_token → ⊥)
-    → parse_program v k ts ≡ bind (parse_body ts) (λ b rest. end_text (record { variables = v; clocks = k; content = with_body b }) rest)
-unfolding parse_program parse_content kind_of_first bind
-program_law v k [] h = absurd (h refl)
-program_law v k (t ∷ ts) h = bind-bind (parse_body (t ∷ ts)) _ _
-
 -- the place that an answer names
 body_moves : (t : List ℕ) (from n : ℕ) (read : Read) (e m : ℕ) → read ≡ Ends e m → Moves t from n (place_of read) (parts_of read) → Moves t from n e m
 body_moves t from n read e m h w = rw h at w
@@ -114,18 +100,14 @@ body_moves t from n read e m h w = rw h at w
 pub body_inside : (t : List ℕ) (from n : ℕ) (read : Read) (e m : ℕ) → read ≡ Ends e m → Moves t from n (place_of read) (parts_of read) → e ≤ length t
 body_inside t from n read e m h w = (body_moves t from n read e m h w).inside
 
-module _ (t b₀ : List ℕ) (from v k first : ℕ) (read : Read) (b : List ℕ) (f : first ≡ kind_of_first (tokens_from t from)) (some : first ≡ 20 → ⊥)
-    (d : Does t b₀ 0 read b (body_entries (tokens_from t from))) where
-  by_body : parse_program v k (tokens_from t from) ≡ bind (parse_body (tokens_from t from)) (λ b rest. end_text (record { variables = v; clocks = k; content = with_body b }) rest)
-  by_body = program_law v k (tokens_from t from) (λ z. some (f ∙ z))
-
+module _ (t b₀ : List ℕ) (from v k : ℕ) (read : Read) (b : List ℕ) (d : Does t b₀ 0 read b (body_entries (tokens_from t from))) where
   text_stops : (m place : ℕ) → Moves t from 0 place m → parse_program v k (tokens_from t from) ≡ stopped (tokens_from t place) → ReadsText t b₀ (TextStops place) b (parse_program v k (tokens_from t from))
   unfolding ReadsText
   text_stops m place j e = rw e (record { place = place; answer_is = refl; inside = j.inside; uncut = j.uncut; rest_is = refl })
 
   pub no_body_lem : (place : ℕ) → read ≡ Stops place → Moves t from 0 (place_of read) (parts_of read) → ReadsText t b₀ (TextStops place) b (parse_program v k (tokens_from t from))
-  unfolding body_entries bind
-  no_body_lem place h i = text_stops 0 place (rw h at i) (by_body ∙ rw (body_stopped (parse_body (tokens_from t from)) (tokens_from t place) (stops_seen t b₀ 0 read b _ place d h)))
+  unfolding parse_program body_entries bind
+  no_body_lem place h i = text_stops 0 place (rw h at i) (rw (body_stopped (parse_body (tokens_from t from)) (tokens_from t place) (stops_seen t b₀ 0 read b _ place d h)))
 
   module _ (e n kind : ℕ) (h : read ≡ Ends e n) (i : kind ≡ kind_of_first (tokens_from t e)) where
     -- the text that is read, where nothing follows it
@@ -134,18 +116,18 @@ module _ (t b₀ : List ℕ) (from v k first : ℕ) (read : Read) (b : List ℕ)
       variables_are : text.variables ≡ v
       clocks_are : text.clocks ≡ k
       program_is : parse_program v k (tokens_from t from) ≡ end_text text (tokens_from t e)
-      stands : Stands b₀ 0 b n (program_entries (text_program text))
+      stands : Stands b₀ 0 b n (preorder (body_tree text.body))
 
     text_got : TextGot
-    unfolding body_entries bind content_program
+    unfolding parse_program body_entries bind
     text_got =
         let s = ends_seen t b₀ 0 read b (body_entries (tokens_from t from)) e n d h in
         let q = body_got (parse_body (tokens_from t from)) s.es (tokens_from t e) s.reading_is in
         record {
-          text = record { variables = v; clocks = k; content = with_body q.body };
+          text = record { variables = v; clocks = k; body = q.body };
           variables_are = refl;
           clocks_are = refl;
-          program_is = by_body ∙ ap (λ (o : Parsed Body). bind o (λ b rest. end_text (record { variables = v; clocks = k; content = with_body b }) rest)) q.body_is;
+          program_is = ap (λ (o : Parsed Body). bind o (λ b rest. end_text (record { variables = v; clocks = k; body = b }) rest)) q.body_is;
           stands = subst (λ (es : List Entry). Stands b₀ 0 b n es) q.entries_are s.stands;
         }
 

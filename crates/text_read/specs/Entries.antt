@@ -8,7 +8,7 @@ use Rattle.meaning.specs.Program.{preorder}
 use Rattle.text_grammar.specs.Tokens.{Mark, thenWord, elseWord, equalSign, semicolon, comma, colon, Token}
 use Rattle.text_grammar.specs.Syntax.{Text}
 use Rattle.text_grammar.specs.Trees.{operand_of, condition_operand, step_tree, sequence_tree, step_trees, body_tree, sequence_trees}
-use Rattle.text_grammar.specs.Parser.{Parsed, got, bind, on_mark, expect, parse_number, parse_clock, parse_condition, parse_step, parse_sequence, parse_body, parse_content, end_text}
+use Rattle.text_grammar.specs.Parser.{Parsed, got, bind, on_mark, expect, parse_number, parse_clock, parse_condition, parse_step, parse_sequence, parse_body, end_text}
 use Rattle.text_parts.specs.declared.Level.{Level}
 use Rattle.text_parts.specs.declared.Level.TheVariants.{Steps, Sequences}
 use Rattle.text_parts.specs.Stored.{join_entries}
@@ -89,6 +89,6 @@ parse_header ts =
     (λ k rest. expect colon rest
     (λ rest. got (record { variables = v; clocks = k }) rest)))
 
--- what follows the colon, and nothing after it
+-- the body, and nothing after it
 unfoldable pub parse_program : ℕ → ℕ → List Token → Parsed Text
-parse_program v k ts = bind (parse_content ts) (λ c rest. end_text (record { variables = v; clocks = k; content = c }) rest)
+parse_program v k ts = bind (parse_body ts) (λ b rest. end_text (record { variables = v; clocks = k; body = b }) rest)

@@ -1,10 +1,10 @@
 -- What the readers promise: where they end or stop, and what the buffer then holds.
 use Rattle.std.specs.Prelude.{ℕ, zero, suc, ◌+◌, ◌≤◌, ◌≡◌, List, ◌∷◌, length}
 use Rattle.meaning.specs.declared.Entry.{Entry}
-use Rattle.meaning.specs.Program.{program_entries}
+use Rattle.meaning.specs.Program.{preorder}
 use Rattle.text_grammar.specs.Tokens.{Mark, opening, Token, mark}
 use Rattle.text_grammar.specs.Syntax.{Text}
-use Rattle.text_grammar.specs.Trees.{text_program}
+use Rattle.text_grammar.specs.Trees.{body_tree}
 use Rattle.text_grammar.specs.Texts.{max_text_length}
 use Rattle.text_grammar.specs.Lexer.{tokens_from}
 use Rattle.text_grammar.specs.Parser.{Parsed, got, stopped, bind}
@@ -109,11 +109,11 @@ unfoldable pub ReadsHeader : List ℕ → Header → Parsed SizesRead → Type 0
 ReadsHeader t r (got s rest) = HeaderEnded t r s rest
 ReadsHeader t r (stopped rest) = HeaderStopped t r rest
 
--- The program of a text: its sizes, and its entries, which stand in b from the begin on
+-- The program of a text: its sizes, and the entries of its tree, which stand in b from the begin on
 pub record TextEnded (t b₀ : List ℕ) (r : Reading) (b : List ℕ) (x : Text) : Type 0 where
   pub parts : ℕ
   pub answer_is : r ≡ Program parts x.variables x.clocks
-  pub stands : Stands b₀ 0 b parts (program_entries (text_program x))
+  pub stands : Stands b₀ 0 b parts (preorder (body_tree x.body))
 
 pub record TextStopped (t : List ℕ) (r : Reading) (rest : List Token) : Type 0 where
   pub place : ℕ

@@ -1,4 +1,4 @@
-// Reads a whole text: its sizes, the colon and what follows it.
+// Reads a whole text: its sizes, the colon and its body.
 ghost use Rattle.std.specs.Prelude.{◌≡◌, ◌≤◌, length};
 ghost use Rattle.text_grammar.specs.Texts.{max_text_length};
 ghost use Rattle.text_grammar.specs.Lexer.{tokens, tokens_from};
@@ -31,16 +31,13 @@ fn read_header(t: &[u8]) -> Header
     Header::Sizes(value_from(t, 0), value_from(t, second), after(t, third))
 }
 
-// Reads what follows the colon: a body, with which the text must end, or nothing.
+// Reads the body, with which the text must end.
 fn read_program(t: &[u8], from: u16, parts: &mut [u8], v: u16, k: u16) -> Reading
     requires t_len_bound { length t.now ≤ max_text_length }
     requires from_in_bounds { from ≤ length t.now }
     requires from_value { cut_at t.now from ≡ 0 }
     ensures { ReadsText t.now parts.old result parts.new (parse_program v k (tokens_from t.now from)) }
 {
-    if kind_from(t, from) == NO_TOKEN {
-        return Reading::Program(0, v, k);
-    }
     let read = body(t, from, parts, 0);
     match read {
         Read::Ends(e, n) => {

@@ -28,9 +28,7 @@ pub mistakes : Holds
     ∷ stop (bytes "1 1: v00=1") gets 5
     ∷ stop (bytes "1 1: v 0=1") gets 5
     ∷ stop (bytes "1 1: v0=1 ;") gets 11
-    ∷ stop (bytes "1 1: ;") gets 5
     ∷ stop (bytes "1 1: ()") gets 6
-    ∷ stop (bytes "1 1: v0=1 ; ()") gets 13
     ∷ stop (bytes "1 1: v0=1 v0=2") gets 10
     ∷ stop (bytes "1 1: wait c0=5") gets 12
     ∷ stop (bytes "1 1: wait c0>5") gets 12
@@ -44,14 +42,10 @@ pub mistakes : Holds
     -- two runs that are no token, one after the other: the place is that of the first, not one inside it
     ∷ stop (bytes "1 1: abc abc") gets 5
     ∷ stop (bytes "1 1: wait v0!==1") gets 14
-    -- what stands before the colon is still asked for
     ∷ stop (bytes "") gets 0
-    ∷ stop (bytes "1 :") gets 2
-    ∷ stop (bytes "1 1 ") gets 4
     ∷ stop (bytes "  ") gets 2
     -- a text that fits: its end
     ∷ stop (bytes "1 1: v0=1 ") gets 10
-    ∷ stop (bytes "1 1: \n ") gets 7
     ∷ [])
 unfolding stop
 mistakes = refl

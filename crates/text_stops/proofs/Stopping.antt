@@ -5,8 +5,8 @@ use mathlib.Core.List.{List, [], ◌∷◌, ◌++◌, append-nil}
 use mathlib.Core.Option.{Option, none}
 use native.Mathlib.Omega.{arith}
 use Rattle.text_grammar.specs.Tokens.{startWord, waitWord, maintainWord, repeatWord, ifWord, thenWord, elseWord, equalSign, differsSign, atLeastSign, belowSign, semicolon, comma, opening, closing, colon, Token, mark, number, variable, clock, unknown}
-use Rattle.text_grammar.specs.Syntax.{variableEquals, variableDiffers, clockAtLeast, clockBelow, goal_step, one_step, one_sequence, with_body, Text, write_condition, write_step, write_sequence, write_body, write_content, write_text}
-use Rattle.text_grammar.specs.Parser.{Parsed, got, stopped, bind, parse_number, parse_clock, parse_value, parse_condition, sequence_rest, body_rest, close_group, parse_branches, step_within, sequence_within, body_within, calls_for, parse_body, parse_content, end_text, parse_text}
+use Rattle.text_grammar.specs.Syntax.{variableEquals, variableDiffers, clockAtLeast, clockBelow, goal_step, one_step, one_sequence, Text, write_condition, write_step, write_sequence, write_body, write_text}
+use Rattle.text_grammar.specs.Parser.{Parsed, stopped, parse_number, parse_clock, parse_value, parse_condition, sequence_rest, body_rest, close_group, parse_branches, step_within, sequence_within, body_within, calls_for, parse_body, end_text, parse_text}
 use Rattle.text_grammar.proofs.Parsing.{body_enough}
 use Rattle.text_grammar.proofs.Complete.{text_read_lem}
 use Rattle.text_stops.specs.Stopping.{first_token, StopsAfter, Stopping}
@@ -145,15 +145,9 @@ whole_body_local ts =
     body_enough (calls_for (l.before ++ us)) calls (l.before ++ us) (omega arith) (omega arith)
     ∙ reads_alike l (body_local calls ts) (body_enough (calls_for ts) calls ts (omega arith) (omega arith)) us e)
 
--- what follows the colon: a text may end there
-content_local : (ts : List Token) → LocalAt write_content parse_content ts
-unfolding parse_content write_content
-content_local [] = at_end refl (local_got (λ us. refl))
-content_local (t ∷ ts) = at_token {q = λ us. bind (parse_body us) (λ b rest. got (with_body b) rest)} (λ us. refl) (local_bind (whole_body_local (t ∷ ts)) (λ b rest. local_got (λ us. refl)))
-
 -- a text, and tokens after it
 abbrev write_open : Text → List Token → List Token
-write_open x rest = number x.variables ∷ number x.clocks ∷ mark colon ∷ write_content x.content rest
+write_open x rest = number x.variables ∷ number x.clocks ∷ mark colon ∷ write_body x.body rest
 
 -- nothing follows a text
 end_local : (x : Text) (ts : List Token) → Local (write_open x) write_open (end_text x) ts
@@ -168,8 +162,8 @@ text_local ts =
     local_bind (number_local ts)
     (λ v rest. local_bind (number_local rest)
     (λ k rest. local_expect colon rest
-    (λ rest. local_bind (content_local rest)
-    (λ c rest. end_local (record { variables = v; clocks = k; content = c }) rest))))
+    (λ rest. local_bind (whole_body_local rest)
+    (λ b rest. end_local (record { variables = v; clocks = k; body = b }) rest))))
 
 -- what stops in the same way before all that begins so reads no text there
 stops_after : (before rest : List Token) → ((us : List Token) → first_token us ≡ first_token rest → parse_text (before ++ us) ≡ stopped us)

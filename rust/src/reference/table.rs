@@ -19,8 +19,7 @@ pub fn compile(file: &[u8], table: &mut [u8]) -> Result<(), u32> {
     if !file.find_extents(extents) {
         return Err(NOT_ONE_TREE);
     }
-    let deepest = extents.first().map_or(0, |root| root.levels);
-    if usize::from(deepest) > MAX_DEPTH {
+    if usize::from(extents[0].levels) > MAX_DEPTH {
         return Err(TOO_DEEP);
     }
     let table = table.get_mut(..file.sizes.table_len());
@@ -88,8 +87,8 @@ impl<'a> File<'a> {
         kinds.zip(self.operands.iter().copied())
     }
 
-    /// Finds how far each part reaches, if the parts form exactly one tree or there is none. A part ends
-    /// where its last child does; from the last part to the first, the children are known.
+    /// Finds how far each part reaches, if the parts form exactly one tree. A part ends where its
+    /// last child does; from the last part to the first, the children are known.
     fn find_extents(&self, extents: &mut [Extent]) -> bool {
         for (part, (kind, operand)) in self.entries().enumerate().rev() {
             let mut end = part + 1;
@@ -106,8 +105,7 @@ impl<'a> File<'a> {
                 levels,
             };
         }
-        let end = extents.first().map_or(0, |root| root.end);
-        usize::from(end) == self.sizes.parts
+        usize::from(extents[0].end) == self.sizes.parts
     }
 
     /// Fills a table with the sizes and the rows.
@@ -115,10 +113,8 @@ impl<'a> File<'a> {
         let (header, rows) = table.split_at_mut(SIZES_LEN);
         let (rows, _) = rows.as_chunks_mut();
         header.copy_from_slice(self.header);
-        if let Some(root) = rows.first_mut() {
-            put_number(root, PARENT, NO_PART);
-            put_number(root, NEXT, NO_PART);
-        }
+        put_number(&mut rows[0], PARENT, NO_PART);
+        put_number(&mut rows[0], NEXT, NO_PART);
         for (part, (kind, operand)) in self.entries().enumerate() {
             let end = usize::from(extents[part].end);
             rows[part][KIND] = kind;
@@ -183,10 +179,9 @@ impl<'a> Table<'a> {
     /// Whether kinds and operands are those of a file, and the rest is what they imply.
     fn rows_allowed(&self) -> bool {
         let parts = self.sizes.parts;
-        let root_allowed =
-            || (self.end(0), self.parent(0), self.next(0)) == (parts, NO_PART, NO_PART);
+        let root_allowed = (self.end(0), self.parent(0), self.next(0)) == (parts, NO_PART, NO_PART);
         let mut depths = [1; MAX_PARTS];
-        (parts == 0 || root_allowed())
+        root_allowed
             && (0..parts).all(|part| {
                 operand_allowed(self.kind(part), self.operand(part), &self.sizes)
                     && depths[part] <= MAX_DEPTH as u8

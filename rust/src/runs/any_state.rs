@@ -5,11 +5,9 @@ use crate::record::Phase;
 use crate::rng::Rng;
 use crate::unfolding::{Program, Rest, Run, Tree};
 
-/// Any state that the paper allows a record to hold, whether or not a run comes to it. Of a program of
-/// no parts it is finished.
+/// Any state that the paper allows a record to hold, whether or not a run comes to it.
 pub fn any_state<'a>(rng: &mut Rng, program: &'a Program) -> Run<'a> {
     let phase = match rng.below(12) {
-        _ if program.root.is_none() => Phase::Finished,
         0 => Phase::Finished,
         1..=5 => Phase::Waiting,
         _ => Phase::Offered,
@@ -25,8 +23,7 @@ pub fn any_state<'a>(rng: &mut Rng, program: &'a Program) -> Run<'a> {
         *clock = started.then_some(run.time.saturating_sub(back));
     }
     let offered = phase == Phase::Offered;
-    let root = program.root.as_ref().filter(|_| phase != Phase::Finished);
-    run.rest = root.map(|root| any_rest(rng, root, offered));
+    run.rest = (phase != Phase::Finished).then(|| any_rest(rng, &program.root, offered));
     run
 }
 

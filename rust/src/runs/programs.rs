@@ -8,13 +8,12 @@ use crate::parts::{
 use crate::rng::Rng;
 use crate::sizes::{MAX_CLOCKS, MAX_DEPTH, MAX_PARTS, MAX_VALUE, MAX_VARIABLES, OPERAND_LEN};
 
-/// The file of a random program of no parts up to as many as allowed.
+/// The file of a random program of 1 part up to as many as allowed.
 pub fn program(rng: &mut Rng) -> Vec<u8> {
     let parts = match rng.below(40) {
         0 => MAX_PARTS,
         1 | 2 => rng.between(60, MAX_PARTS),
         3..=9 => rng.between(13, 60),
-        10..=12 => 0,
         _ => rng.between(1, 12),
     };
     let depth = match rng.below(3) {

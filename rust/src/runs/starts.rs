@@ -51,8 +51,8 @@ impl Starts {
     /// What a settling that is accepted does in this state, which an offer has left.
     pub fn of_settling(run: &Run) -> Starts {
         let mut at_work = AtWork::default();
-        if let (Some(root), Some(rest)) = (&run.program.root, &run.rest) {
-            at_work.collect(root, rest);
+        if let Some(rest) = &run.rest {
+            at_work.collect(&run.program.root, rest);
         }
         let mut starts = Starts {
             dropped: at_work.dropped,

@@ -14,13 +14,11 @@ pub fn typed_program(rng: &mut Rng) -> Typed {
     let file = any_program(rng).file();
     let program = model::read(&file).expect("a valid program");
     let (sizes, mut root) = (program.sizes, program.root);
-    if let Some(root) = &mut root {
-        change_labels(root, &mut |label| {
-            if let Label::Seq { count: 1 } | Label::Par { count: 1 } = label {
-                *label = rng.pick(&[Label::Repeat, Label::Maintain(differs(0, 0))]);
-            }
-        });
-    }
+    change_labels(&mut root, &mut |label| {
+        if let Label::Seq { count: 1 } | Label::Par { count: 1 } = label {
+            *label = rng.pick(&[Label::Repeat, Label::Maintain(differs(0, 0))]);
+        }
+    });
     Typed { sizes, root }
 }
 
@@ -43,22 +41,16 @@ pub fn spoilt(rng: &mut Rng, typed: Typed) -> Typed {
         match rng.below(5) {
             0 => sizes.variables = rng.pick(&[0, MAX_VARIABLES + 1, 255, 256, 257, 65_535]),
             1 => sizes.clocks = rng.pick(&[MAX_CLOCKS + 1, 255, 256, 257, 65_535]),
-            2 => root = Some(lengthened(rng, root)),
-            3 => root = Some(deepened(rng, root)),
-            _ => {
-                if let Some(root) = &mut root {
-                    spoil_operand(rng, root, &sizes);
-                }
-            }
+            2 => root = lengthened(rng, root),
+            3 => root = deepened(rng, root),
+            _ => spoil_operand(rng, &mut root, &sizes),
         }
     }
     Typed::new(sizes.variables, sizes.clocks, root)
 }
 
-/// The program among GOALs: about as many parts as are allowed, or more than a byte can count, among
-/// them 256, which a byte takes for none.
-fn lengthened(rng: &mut Rng, root: Option<Part>) -> Part {
-    let root = root.unwrap_or_else(|| goal(0, 0));
+/// The program among GOALs: about as many parts as are allowed, or more than a byte can count.
+fn lengthened(rng: &mut Rng, root: Part) -> Part {
     let most = MAX_PARTS;
     let size = rng.pick(&[most - 1, most, most + 1, 256, 257, 256 + most]);
     let goals = size.saturating_sub(1 + root.size()).max(1);
@@ -71,9 +63,9 @@ fn lengthened(rng: &mut Rng, root: Option<Part>) -> Part {
 }
 
 /// The program inside others, down to about the greatest depth or far below it.
-fn deepened(rng: &mut Rng, root: Option<Part>) -> Part {
+fn deepened(rng: &mut Rng, root: Part) -> Part {
     let depth = rng.pick(&[MAX_DEPTH, MAX_DEPTH + 1, MAX_DEPTH + 2, 2 * MAX_DEPTH]);
-    let mut part = root.unwrap_or_else(|| goal(0, 0));
+    let mut part = root;
     while part.depth() < depth {
         part = match rng.below(4) {
             0 => repeat(part),

@@ -1,4 +1,4 @@
-//! Texts with what each gives, worked out by hand from document 02's.
+//! Texts with what each gives, worked out by hand from document 02's R-5.
 
 mod refused;
 
@@ -43,7 +43,6 @@ pub fn all() -> Vec<Example> {
         .chain(refused)
         .chain(accepted)
         .chain(files())
-        .chain(without_parts())
         .chain(about_limits())
         .map(|(text, gives)| Example { text, gives })
         .collect()
@@ -212,26 +211,6 @@ fn files() -> Vec<Given> {
     files.map(given).to_vec()
 }
 
-/// "A text with nothing but spaces and line ends after the colon gives this file": the three sizes
-/// alone.
-fn without_parts() -> Vec<Given> {
-    let files: [(&[u8], &[u8]); 11] = [
-        (b"1 1:", &[0, 1, 1]),
-        (b"1 1: ", &[0, 1, 1]),
-        (b"1 1:\n", &[0, 1, 1]),
-        (b"1 1: \n ", &[0, 1, 1]),
-        (b"1 1:      \n\n\n  \n", &[0, 1, 1]),
-        (b"1 1 :", &[0, 1, 1]),
-        (b"\n1\n1\n:\n", &[0, 1, 1]),
-        (b"1 0:", &[0, 1, 0]),
-        (b"32 0:", &[0, 32, 0]),
-        (b"1 16:", &[0, 1, 16]),
-        (b"32 16:", &[0, 32, 16]),
-    ];
-    let given = |(text, file): (&[u8], &[u8])| (text.to_vec(), Ok(file.to_vec()));
-    files.map(given).to_vec()
-}
-
 /// Texts about the most bytes, parts and levels, of one variable and one clock.
 fn about_limits() -> Vec<Given> {
     [about_most_bytes(), about_most_parts_and_levels()].concat()
@@ -241,10 +220,7 @@ fn about_most_bytes() -> Vec<Given> {
     let one_goal = || Ok(STATION_1.to_vec());
     let text = list("v0=1", ";", 1);
     let of_len = |len| padded(&text, SIZES.len(), b' ', len);
-    let gaps = |len| padded(SIZES.as_bytes(), SIZES.len(), b'\n', len);
     vec![
-        (gaps(MAX_TEXT_LEN), Ok(vec![0, 1, 1])),
-        (gaps(MAX_TEXT_LEN + 1), Err(NOT_A_TEXT)),
         (of_len(MAX_TEXT_LEN), one_goal()),
         (of_len(MAX_TEXT_LEN + 1), Err(NOT_A_TEXT)),
         // As many pairs of brackets as there is room for, and one more.
@@ -252,8 +228,6 @@ fn about_most_bytes() -> Vec<Given> {
         (nest("(", 8189, "v0=1", ")"), Err(NOT_A_TEXT)),
         // As many open brackets as there is room for.
         (nest("(", 16_380, "", ""), Err(NOT_A_TEXT)),
-        // Nothing in as many pairs of brackets as there is room for.
-        (nest("(", 8190, "", ")"), Err(NOT_A_TEXT)),
     ]
 }
 
@@ -265,8 +239,7 @@ fn about_most_parts_and_levels() -> Vec<Given> {
     vec![
         (list("v0=1", ";", MAX_PARTS - 1), Ok(longest)),
         (list("v0=1", ";", MAX_PARTS), Err(SIZE_OUT_OF_RANGE)),
-        // 256 parts, which a byte takes for none; one part more, and as many as are allowed more.
-        (list("v0=1", ";", 255), Err(SIZE_OUT_OF_RANGE)),
+        // One part and 256, which a byte takes for one, and as many as are allowed and 256.
         (list("v0=1", ";", 256), Err(SIZE_OUT_OF_RANGE)),
         (list("v0=1", ";", 255 + MAX_PARTS), Err(SIZE_OUT_OF_RANGE)),
         (repeats(MAX_DEPTH - 1, "v0=1"), Ok(deepest)),

@@ -11,9 +11,8 @@ const PLACES: &[(&[u8], usize)] = &[
     (b" \n", 2),
     (b"1", 1),
     (b"1 1", 3),
-    (b"1 1 \n", 5),
-    (b"1 1:(", 5),
-    (b"1 1: (\n", 7),
+    (b"1 1:", 4),
+    (b"1 1: \n ", 7),
     (b"1 1: v0", 7),
     (b"1 1: v0=", 8),
     (b"1 1: v0=1;", 10),
@@ -39,15 +38,7 @@ const PLACES: &[(&[u8], usize)] = &[
     (b"1 1: v0=v0", 8),
     (b"1 1: v0=1 v0=2", 10),
     (b"1 1: v0=1)", 9),
-    (b"1 1:;", 4),
-    (b"1 1: ,", 5),
-    (b"1 1:)", 4),
-    (b"1 1::", 4),
-    (b"1 1: \n :", 7),
     (b"1 1: ()", 6),
-    (b"1 1:( \n)", 7),
-    (b"1 1: v0=1;()", 11),
-    (b"1 1: repeat()", 12),
     (b"1 1: (v0=1;)", 11),
     (b"1 1: (v0=1)(v0=1)", 11),
     (b"1 1: c0>=1", 5),
@@ -73,8 +64,6 @@ const PLACES: &[(&[u8], usize)] = &[
     (b"1 1: wait v0! =1", 12),
     (b"1 1: wait c0>5", 12),
     (b"1 1: wait c0 > =5", 13),
-    (b"1 1:\t", 4),
-    (b"1 1: \r\n", 5),
     (b"1 1:\tv0=1", 4),
     (b"1 1: v0=1\r\n", 9),
     (b"1 1: V0=1", 5),
@@ -91,20 +80,6 @@ fn places_by_hand() {
     for (text, place) in PLACES {
         let fault = read(text).expect_err("outside the grammar");
         assert_eq!(fault, Outside::At(*place), "{}", shown(text));
-    }
-}
-
-/// Nothing is missing where nothing stands behind the colon, and nothing but gaps.
-#[test]
-fn no_place_in_a_text_of_no_parts() {
-    for text in [&b"1 1:"[..], b"0 1:", b"1 1: \n ", b"\n1 1\n:\n\n"] {
-        let typed = read(text).unwrap_or_else(|fault| panic!("{}: {fault:?}", shown(text)));
-        assert_eq!(
-            (typed.sizes.parts, typed.root),
-            (0, None),
-            "{}",
-            shown(text)
-        );
     }
 }
 
@@ -242,12 +217,12 @@ fn require(found: Search, least: u64) {
 
 #[test]
 fn places_in_five_signs() {
-    require(search(&["1", "1", ":"], &SIGNS, 5), 21);
+    require(search(&["1", "1", ":"], &SIGNS, 5), 20);
 }
 
 #[test]
 fn places_in_five_pieces() {
-    require(search(&["1", "1", ":"], &PIECES, 5), 31);
+    require(search(&["1", "1", ":"], &PIECES, 5), 30);
     require(
         search(&["1", "1", ":", "if", "v0=1", "then"], &PIECES, 5),
         10,
@@ -256,5 +231,5 @@ fn places_in_five_pieces() {
 
 #[test]
 fn places_in_the_sizes() {
-    require(search(&[], &SIGNS_OF_SIZES, 6), 12);
+    require(search(&[], &SIGNS_OF_SIZES, 6), 4);
 }

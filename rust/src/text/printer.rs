@@ -58,9 +58,7 @@ pub(super) fn signs_of(rng: &mut Rng, typed: &Typed) -> Vec<String> {
     writer.push(&variables.to_string());
     writer.push(&clocks.to_string());
     writer.push(":");
-    if let Some(root) = &typed.root {
-        writer.push_step(root, Where::Alone);
-    }
+    writer.push_step(&typed.root, Where::Alone);
     writer.signs
 }
 
@@ -187,23 +185,6 @@ mod tests {
             let text = written(&mut rng, &typed);
             assert_eq!(read(&text).as_ref(), Ok(&typed), "{}", shown(&text));
         }
-    }
-
-    /// No parts are written as no signs behind the colon, with gaps and without.
-    #[test]
-    fn without_parts() {
-        let mut rng = Rng::new(702);
-        let typed = read(b"3 2:").expect("a text");
-        assert_eq!(typed.root, None);
-        let mut without_gaps = 0;
-        for _ in 0..1000 {
-            let text = written(&mut rng, &typed);
-            let signs = text.split(|byte| b" \n".contains(byte)).collect::<Vec<_>>();
-            assert_eq!(signs.concat(), b"32:", "{}", shown(&text));
-            assert_eq!(read(&text).as_ref(), Ok(&typed), "{}", shown(&text));
-            without_gaps += usize::from(text.len() == "3 2:".len());
-        }
-        assert!((20..980).contains(&without_gaps), "{without_gaps}");
     }
 
     /// One program is written in many ways: with and without brackets and gaps that it does not

@@ -16,12 +16,7 @@ pub fn read(text: &[u8]) -> Result<Typed, Outside> {
     let variables = signs.number()?;
     let clocks = signs.number()?;
     signs.take(b":")?;
-    // "A text with nothing but spaces and line ends after the colon" has no parts. What stands in
-    // brackets has some: "empty brackets still get 16".
-    let root = match signs.next() {
-        b"" => None,
-        _ => Some(read_steps(&mut signs)?),
-    };
+    let root = read_steps(&mut signs)?;
     Ok(Typed::new(variables.into(), clocks.into(), root))
 }
 

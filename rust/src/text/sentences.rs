@@ -35,7 +35,7 @@ type Made<T> = (Vec<&'static str>, T);
 struct Grammar {
     steps: Vec<Vec<Made<Part>>>,
     sequences: Vec<Vec<Made<Part>>>,
-    /// What a bracket may hold: whole texts but the empty one.
+    /// Whole texts.
     groups: Vec<Vec<Made<Part>>>,
 }
 
@@ -133,28 +133,16 @@ fn text_of(pieces: &[&str]) -> Vec<u8> {
     join(&[&["1 1:"], pieces].concat(), |_| b" ")
 }
 
-/// Whole texts of so many pieces: what a bracket may hold, and the text with nothing behind its colon.
-fn texts_of(grammar: &Grammar, count: usize) -> Vec<Made<Option<Part>>> {
-    let groups = grammar.groups[count].iter();
-    let mut texts: Vec<Made<Option<Part>>> = groups
-        .map(|(pieces, part)| (pieces.clone(), Some(part.clone())))
-        .collect();
-    if count == 0 {
-        texts.push((Vec::new(), None));
-    }
-    texts
-}
-
 /// "It has one reading": the rules make no text twice, and the reader gives the tree of each.
 #[test]
 fn each_text_of_the_grammar_is_read() {
     let grammar = Grammar::up_to(MOST + 3);
     let mut trees = HashMap::new();
-    for (pieces, root) in (0..=MOST + 3).flat_map(|count| texts_of(&grammar, count)) {
+    for (pieces, part) in grammar.groups.into_iter().flatten() {
         let text = text_of(&pieces);
         let typed = read(&text).unwrap_or_else(|fault| panic!("{pieces:?}: {fault:?}"));
-        assert_eq!(typed.root, root, "{pieces:?}");
-        assert_eq!(trees.insert(text, root), None, "{pieces:?}");
+        assert_eq!(typed.root, part, "{pieces:?}");
+        assert_eq!(trees.insert(text, part), None, "{pieces:?}");
     }
     assert!(trees.len() > 10_000, "only {} texts", trees.len());
 }
@@ -165,8 +153,7 @@ fn no_other_text_is_accepted() {
     let grammar = Grammar::up_to(MOST);
     for count in 0..=MOST {
         let accepted = accepted_of(count, &mut Vec::new());
-        let made = texts_of(&grammar, count).len();
-        assert_eq!(accepted, made, "{count} pieces");
+        assert_eq!(accepted, grammar.groups[count].len(), "{count} pieces");
     }
 }
 

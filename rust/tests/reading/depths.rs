@@ -109,7 +109,7 @@ impl Trial {
     /// Expects that the rows of a tree that is too deep are no table, though they fit each other.
     fn check_rows(&mut self, file: &[u8], root: &Part) {
         let sizes = Sizes::read(file).expect("a file has its sizes");
-        let root = Some(root.clone());
+        let root = root.clone();
         let table = Program { sizes, root }.table();
         let answer = check_table(&mut self.rng, &mut self.tally, &table);
         assert_eq!(answer, Err(NOT_A_TABLE), "{}", hex(&table));

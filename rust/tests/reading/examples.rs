@@ -136,6 +136,7 @@ fn sizes_at_their_limits() {
             SIZE_OUT_OF_RANGE,
         );
     }
+    assert_file_refused(&[0, 1, 0], AMPLE, SIZE_OUT_OF_RANGE);
     assert_file_refused(&seq_of_goals(201), AMPLE, SIZE_OUT_OF_RANGE);
     assert_file_refused(&seq_of_goals(255), AMPLE, SIZE_OUT_OF_RANGE);
 }

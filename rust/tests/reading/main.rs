@@ -1,7 +1,6 @@
 //! Reading program files and giving them back: every executive against the paper and the model.
 
 mod depths;
-mod empty;
 mod examples;
 mod exhaustive;
 mod harness;

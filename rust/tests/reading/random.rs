@@ -16,7 +16,6 @@ use crate::harness::{check_compile, check_decompile, check_file, check_table, Ta
 fn valid_programs() {
     let mut rng = Rng::new(100);
     let mut tally = Tally::default();
-    let mut empty = 0;
     let mut smallest = 0;
     let mut largest = 0;
     let mut deepest = 0;
@@ -25,13 +24,11 @@ fn valid_programs() {
         let answer = check_file(&mut rng, &mut tally, &file);
         assert_eq!(answer, Ok(()), "valid program {}", hex(&file));
         let program = model::read(&file).expect("accepted just before");
-        empty += u64::from(program.sizes.parts == 0);
         smallest += u64::from(program.sizes.parts == 1);
         largest += u64::from(program.sizes.parts == MAX_PARTS);
-        deepest += u64::from(program.depth() == MAX_DEPTH);
+        deepest += u64::from(program.root.depth() == MAX_DEPTH);
     }
     let sizes = named([
-        ("programs of no parts", empty),
         ("programs of one part", smallest),
         ("programs of most parts", largest),
         ("programs of greatest depth", deepest),
@@ -60,8 +57,7 @@ fn depths_about_the_limit() {
     assert_counts(file!(), "depths_about_the_limit", &tally.counts());
 }
 
-/// The rows of a program with a REPEAT put above it: a table unless it is too deep or too long, or the
-/// REPEAT has no child.
+/// The rows of a program with a REPEAT put above it: a table unless it is too deep or too long.
 #[test]
 fn tables_about_the_limits() {
     let mut rng = Rng::new(102);
@@ -76,8 +72,7 @@ fn tables_about_the_limits() {
             ..inner.sizes
         };
         let table = model::table_bytes(&sizes, &rows);
-        let has_child = inner.root.is_some();
-        let fits = has_child && rows.len() <= MAX_PARTS && inner.depth() < MAX_DEPTH;
+        let fits = rows.len() <= MAX_PARTS && inner.root.depth() < MAX_DEPTH;
         let expected = if fits { Ok(()) } else { Err(NOT_A_TABLE) };
         let answer = check_table(&mut rng, &mut tally, &table);
         assert_eq!(answer, expected, "{}", hex(&table));

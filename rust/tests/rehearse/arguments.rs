@@ -74,7 +74,7 @@ fn longest_file() {
 fn random_programs() {
     let mut rng = Rng::new(620);
     let mut tally = Tally::default();
-    for number in 0..300 {
+    for number in 0..210 {
         let draft = any_program(&mut rng);
         let file = match number % 3 {
             0 => random_file(&mut rng),

@@ -4,7 +4,6 @@
 mod dipping;
 mod silence;
 
-use gurvoke::builder::empty_file;
 use gurvoke::rehearsal::Rehearsal;
 
 use crate::harness::assert_both;
@@ -22,12 +21,7 @@ macro_rules! example {
 
 #[test]
 fn rehearsed_examples() {
-    for (file, calls, log) in [
-        example!("coring"),
-        example!("dipping"),
-        example!("silence"),
-        example!("towed"),
-    ] {
+    for (file, calls, log) in [example!("coring"), example!("dipping"), example!("silence")] {
         let calls = calls.as_bytes().to_vec();
         let rehearsal = Rehearsal {
             file,
@@ -42,12 +36,6 @@ fn rehearsed_examples() {
 fn program_of_the_dipping_station() {
     let (file, _, _) = example!("dipping");
     assert_eq!(file, dipping::program());
-}
-
-#[test]
-fn program_of_the_towed_frame() {
-    let (file, _, _) = example!("towed");
-    assert_eq!(file, empty_file(2, 1));
 }
 
 #[test]

@@ -71,8 +71,6 @@ pub fn assert_same(name: &str, is: &str, should: &str, rehearsal: &Rehearsal) {
 #[derive(Default)]
 pub struct Tally {
     pub rehearsals: u64,
-    /// Those of programs of no parts.
-    empty: u64,
     lines: BTreeMap<String, u64>,
     starts: StartCounts,
     gaps: GapCounts,
@@ -94,7 +92,6 @@ impl Tally {
         let Ok(program) = unfolding::Program::read(&rehearsal.file) else {
             return;
         };
-        self.empty += u64::from(program.root.is_none());
         let mut latest = LatestRun::new(&program);
         for line in rehearsal.calls.split(|&byte| byte == b'\n') {
             match read_line(line) {
@@ -138,11 +135,7 @@ impl Tally {
 
     /// What was counted, as the list of counts names it.
     pub fn counts(&self) -> Counts {
-        let mut counts = named([
-            ("rehearsals", self.rehearsals),
-            ("rehearsals of programs of no parts", self.empty),
-            ("answers", self.answers()),
-        ]);
+        let mut counts = named([("rehearsals", self.rehearsals), ("answers", self.answers())]);
         for (kind, count) in &self.lines {
             counts.push((format!("lines {kind}"), *count));
         }

@@ -1,8 +1,7 @@
 //! All runs of all programs of some small sets.
 
 use gurvoke::builder::{
-    at_least, below, choice, differs, empty_file, equals, file, goal, maintain, par, repeat, seq,
-    start, wait,
+    at_least, below, choice, differs, equals, file, goal, maintain, par, repeat, seq, start, wait,
 };
 use gurvoke::counts::assert_counts;
 use gurvoke::executive::{Executive, ALL};
@@ -114,21 +113,8 @@ fn settle(estimate: &[u8]) -> Call {
     Call::Settle { estimate }
 }
 
-/// A program by its root, or that of no parts.
-type Root = Option<Part>;
-
-/// Programs with a root.
-fn rooted(parts: Vec<Part>) -> Vec<Root> {
-    parts.into_iter().map(Some).collect()
-}
-
-/// The program of no parts, and those with a root. It comes first, so that each share has it.
-fn with_empty(parts: Vec<Part>) -> Vec<Root> {
-    [vec![None], rooted(parts)].concat()
-}
-
 /// The programs that each executive gets.
-fn shares(programs: &[Root]) -> Vec<(&'static Executive, Vec<Root>)> {
+fn shares(programs: &[Part]) -> Vec<(&'static Executive, Vec<Part>)> {
     let share = |(place, &executive): (usize, &&'static Executive)| {
         let step = if place == 0 { 1 } else { SHARE };
         (executive, programs.iter().step_by(step).cloned().collect())
@@ -139,16 +125,13 @@ fn shares(programs: &[Root]) -> Vec<(&'static Executive, Vec<Root>)> {
 /// Begins each program, of one clock, with each of these estimates, and hands board and run over.
 fn begin_all<const VARIABLES: usize>(
     executive: &'static Executive,
-    programs: &[Root],
+    programs: &[Part],
     firsts: &[[u8; VARIABLES]],
     mut explore: impl FnMut(&mut Rng, Board, Run),
 ) {
     let mut rng = Rng::new(400);
     for root in programs {
-        let file = match root {
-            Some(root) => file(VARIABLES, 1, root),
-            None => empty_file(VARIABLES, 1),
-        };
+        let file = file(VARIABLES, 1, root);
         let program = Program::read(&file).expect("a valid program");
         for first in firsts {
             let mut board = Board::new(&mut rng, executive, &file, RECORD_LEN);
@@ -177,8 +160,7 @@ fn every_list(
     }
 }
 
-/// Every list of up to four calls, refused ones among them, for every program of up to three parts, that
-/// of none included.
+/// Every list of up to four calls, refused ones among them, for every program of up to three parts.
 #[test]
 fn every_list_of_four_calls() {
     let calls = [
@@ -191,8 +173,8 @@ fn every_list_of_four_calls() {
         settle(&estimate(NO_VALUES.end - 1)),
     ];
     let [ones, twos, threes, _] = alphabet().programs();
-    let programs = with_empty([ones, twos, threes].concat());
-    assert_eq!(programs.len(), 1 + 9 + 7 * 9 + 7 * 7 * 9 + 6 * 9 * 9);
+    let programs = [ones, twos, threes].concat();
+    assert_eq!(programs.len(), 9 + 7 * 9 + 7 * 7 * 9 + 6 * 9 * 9);
     let mut counts = Vec::new();
     for (executive, programs) in shares(&programs) {
         let mut tally = Tally::default();
@@ -238,7 +220,7 @@ fn every_list_of_five_cycles() {
     let [ones, twos, threes, _] = alphabet().programs();
     check_cycles(
         "every_list_of_five_cycles",
-        &with_empty([ones, twos, threes].concat()),
+        &[ones, twos, threes].concat(),
         5,
     );
 }
@@ -252,10 +234,10 @@ fn every_list_of_three_cycles() {
         fours.len(),
         7 * threes.len() + 6 * 2 * pairs + 2 * 9 * 9 * 9
     );
-    check_cycles("every_list_of_three_cycles", &rooted(fours), 3);
+    check_cycles("every_list_of_three_cycles", &fours, 3);
 }
 
-fn check_cycles(test: &str, programs: &[Root], cycles: usize) {
+fn check_cycles(test: &str, programs: &[Part], cycles: usize) {
     check_accepted(
         test,
         programs,
@@ -267,7 +249,7 @@ fn check_cycles(test: &str, programs: &[Root], cycles: usize) {
 /// Begins each program and explores its runs by calls of which none is refused.
 fn check_accepted<const VARIABLES: usize>(
     test: &str,
-    programs: &[Root],
+    programs: &[Part],
     firsts: &[[u8; VARIABLES]],
     explore: impl Fn(&mut Rng, &mut Tally, (Board, Run)),
 ) {
@@ -316,7 +298,7 @@ fn every_restart() {
     assert_eq!(programs.len(), 1 + 7 + 103 + 1599 + 1599);
     check_accepted(
         "every_restart",
-        &rooted(programs),
+        &programs,
         &[estimate(0)],
         |rng, tally, (board, run)| every_pace(rng, tally, (&board, &run), 5),
     );
@@ -384,7 +366,7 @@ fn every_contest() {
     );
     check_accepted(
         "every_contest",
-        &rooted(programs),
+        &programs,
         &[[0, 0, 0], [0, 0, 1], [0, 0, UNKNOWN_VALUE]],
         settle_contest,
     );

@@ -97,10 +97,6 @@ impl Board {
         self.finishing_cycle = None;
         if let Ok(run) = &wanted {
             self.record.expect(&run.record());
-            // A run of no parts is finished after no settling.
-            let is_finished = self.record.content()[PHASE] == FINISHED;
-            self.finishing_cycle = is_finished.then_some(0);
-            assert_eq!(self.finishing_cycle, run.finishing_cycle, "{}", self.case());
         }
         let number = wanted.as_ref().err().copied().unwrap_or(DONE);
         assert_eq!(answer, number, "begin with {first:?}: {}", self.case());

@@ -1,7 +1,6 @@
 //! Beginning, offering and settling: every executive against the paper and the unfolding.
 
 mod contested;
-mod empty;
 mod exhaustive;
 mod harness;
 mod mars_entry;

@@ -25,8 +25,7 @@ struct Seen {
     tally: Tally,
     runs: u64,
     finished: u64,
-    /// Runs of programs with no parts, with one, with as many as allowed, and as deep as allowed.
-    empty: u64,
+    /// Runs of programs with one part, with as many as allowed, and as deep as allowed.
     smallest: u64,
     largest: u64,
     deepest: u64,
@@ -43,10 +42,9 @@ struct Seen {
 impl Seen {
     fn note_run(&mut self, file: &[u8], run: &Run) {
         let parts = run.program.sizes.parts;
-        let depth = model::read(file).map_or(0, |program| program.depth());
+        let depth = model::read(file).map_or(0, |program| program.root.depth());
         self.runs += 1;
         self.finished += u64::from(is_over(run));
-        self.empty += u64::from(parts == 0);
         self.smallest += u64::from(parts == 1);
         self.largest += u64::from(parts == MAX_PARTS);
         self.deepest += u64::from(depth == MAX_DEPTH);
@@ -65,7 +63,6 @@ impl Seen {
         let own = named([
             ("runs", self.runs),
             ("runs that finish", self.finished),
-            ("runs of no parts", self.empty),
             ("runs of one part", self.smallest),
             ("runs of most parts", self.largest),
             ("runs of greatest depth", self.deepest),
@@ -154,7 +151,7 @@ fn check_run(
 /// Programs of any size and shape.
 #[test]
 fn any_programs() {
-    check_runs("any_programs", 300, 54_000, runs::program);
+    check_runs("any_programs", 300, 50_000, runs::program);
 }
 
 /// Programs made for the buyer's doubtful cycles: a condition breaks just as a clock comes due.
@@ -216,7 +213,6 @@ fn beginnings() {
     for &executive in ALL {
         let mut rng = Rng::new(303);
         let mut answers = [0; ESTIMATE_NOT_ALLOWED as usize + 1];
-        let mut finished = 0;
         for _ in 0..20_000 {
             let file = runs::program(&mut rng);
             let program = Program::read(&file).expect("a valid program");
@@ -229,7 +225,6 @@ fn beginnings() {
                 false => estimate,
             };
             let begun = board.begin(&mut rng, &program, &estimate);
-            finished += u64::from(begun.as_ref().is_ok_and(is_over));
             answers[begun.err().unwrap_or(DONE) as usize] += 1;
         }
         let [done, short, estimates] =
@@ -237,7 +232,6 @@ fn beginnings() {
         assert_eq!(done + short + estimates, 20_000);
         let counts = named([
             ("beginnings that are done", done),
-            ("beginnings that finish the run", finished),
             ("beginnings refused with 8", short),
             ("beginnings refused with 13", estimates),
         ]);

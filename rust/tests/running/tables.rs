@@ -38,17 +38,13 @@ fn contending_goals() -> Vec<u8> {
     file(3, 0, &par(goals.to_vec()))
 }
 
-/// A program of no parts.
-const EMPTY: [u8; 3] = [0, 2, 1];
-
-/// The records of a run that waits for an offer and of one that waits for a settling. Without parts a
-/// run waits for neither.
+/// The records of a run that waits for an offer and of one that waits for a settling.
 fn two_records(program: &Program) -> [Vec<u8>; 2] {
     let estimate = vec![0; program.sizes.variables];
     let mut run = Run::begin(program, &estimate).expect("an allowed estimate");
     let fresh = run.record();
     let offer = run.offer(3, program.sizes.variables);
-    assert_eq!(offer.is_ok(), program.root.is_some());
+    assert!(offer.is_ok());
     [fresh, run.record()]
 }
 
@@ -203,7 +199,6 @@ fn check_begin(executive: &'static Executive, table: &[u8], program: &Program) {
 fn every_byte_of_small_tables() {
     let values: Vec<u8> = (0..=255).collect();
     let mut seen = Changed::default();
-    check_each_byte(&mut seen, &EMPTY, &values);
     check_each_byte(&mut seen, &STATION_10, &values);
     check_each_byte(&mut seen, &each_kind(), &values);
     check_each_byte(&mut seen, &contending_goals(), &values);
@@ -235,7 +230,7 @@ fn every_byte_of_large_tables() {
 /// A table has exactly its length.
 #[test]
 fn tables_cut_short_or_longer() {
-    for file in [EMPTY.to_vec(), STATION_10.to_vec(), each_kind()] {
+    for file in [STATION_10.to_vec(), each_kind()] {
         let program = Program::read(&file).expect("a valid program");
         let right = table_of(&file);
         let mut longer = right.clone();

@@ -9,9 +9,8 @@ use gurvoke::text::{self, LINE_END};
 
 use crate::harness::{check_all, check_cut, check_text, expect, Tally};
 
-/// Short texts that have every sign between them, the first no more than its sizes and colon.
-const TEXTS: [&[u8]; 6] = [
-    b"2 1: \n",
+/// Short texts that have every sign between them.
+const TEXTS: [&[u8]; 5] = [
     b"1 1: v0=1",
     b"1 1:start c0;wait c0>=10",
     b"2 1:maintain v0!=2(v1=1,v0=2)",
@@ -66,10 +65,7 @@ fn bytes_where_nothing_belongs() {
             b' ' | LINE_END => Ok(()),
             _ => Err(NOT_A_TEXT),
         };
-        let places: [(&[u8], &[u8]); 7] = [
-            (b"1 1:", b""),
-            (b"1 1:\n", b" "),
-            (b"1 1 ", b":"),
+        let places: [(&[u8], &[u8]); 4] = [
             (b"", b" 1 1:(v0=1)"),
             (b"1 1:(", b"(v0=1))"),
             (b"1 1:(v0=1 ", b")"),

@@ -50,10 +50,7 @@ impl Trial {
 #[test]
 fn most_bytes() {
     with_room(|| {
-        let texts: [(&[u8], Answer); 8] = [
-            (b"1 1:", Ok(())),
-            (b"0 1:", Err(SIZE_OUT_OF_RANGE)),
-            (b"1 1:()", Err(NOT_A_TEXT)),
+        let texts: [(&[u8], Answer); 5] = [
             (b"1 1:v0=1", Ok(())),
             (b"0 1:v0=1", Err(SIZE_OUT_OF_RANGE)),
             (b"1 1:v1=1", Err(OPERAND_NOT_ALLOWED)),

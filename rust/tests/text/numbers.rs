@@ -68,8 +68,6 @@ fn places() -> Vec<Place> {
     let mut places = vec![
         size("# 0: v0=1", MIN_VARIABLES..=MAX_VARIABLES),
         size("1 #: v0=1", 0..=MAX_CLOCKS),
-        size("# 0:", MIN_VARIABLES..=MAX_VARIABLES),
-        size("1 #:", 0..=MAX_CLOCKS),
         operand("v#=1", &variables),
         operand("v0=#", &values),
         operand("start c#", &clocks),

@@ -1,5 +1,5 @@
 -- `write_table` meets its contract: the rows follow the sizes.
-use Rattle.program_compile.proofs.Compiling.{file_program, table_written}
+use Rattle.program_compile.proofs.Compiling.{file_tree, table_written}
 use borrow.Author.Rules.{rules}
 use Rattle.program_compile.proofs.write_table.Statement.{statement}
 use Rattle.program_compile.proofs.write_table.Tie as tie
@@ -8,7 +8,7 @@ copy-requires : tie.Need-copy-requires
 copy-requires c κs = search rules
 
 write-rows-requires : tie.Need-write-rows-requires
-write-rows-requires c κs = (search file_program, search rules)
+write-rows-requires c κs = (search file_tree, search rules)
 
 same_length : tie.Need-same-length
 same_length c = search rules

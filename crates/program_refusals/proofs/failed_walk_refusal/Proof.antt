@@ -22,11 +22,8 @@ is-one-tree-requires c κs = search rules
 
 returns-3 : tie.Need-returns-3
 returns-3 c =
-    let after-if2 = c.before.before in
-    let operands = after-if2.before in
-    let after-kinds-known = operands.before.before in
-    let start = after-kinds-known.before.before in
-    tree_refused File _ _ after-kinds-known.kinds-known.ensures operands.before.if1.false _ operands.operands-allowed.ensures after-if2.if2.false _ c.before.is-one-tree.ensures start.requires.1 c.if3.true
+    let operands = c.before.before.before in
+    tree_refused File _ _ operands.before.before.kinds-known.ensures operands.before.if1.false _ operands.operands-allowed.ensures c.before.before.if2.false _ c.before.is-one-tree.ensures c.if3.true
 
 returns-4 : tie.Need-returns-4
 returns-4 c =
@@ -34,7 +31,7 @@ returns-4 c =
     let operands = after-if2.before in
     let after-kinds-known = operands.before.before in
     let start = after-kinds-known.before.before in
-    depth_refused File _ _ after-kinds-known.kinds-known.ensures operands.before.if1.false _ operands.operands-allowed.ensures after-if2.if2.false _ c.before.is-one-tree.ensures start.requires.1 c.if3.false
+    depth_refused File _ _ after-kinds-known.kinds-known.ensures operands.before.if1.false _ operands.operands-allowed.ensures after-if2.if2.false _ c.before.is-one-tree.ensures c.if3.false start.requires.1
 
 pub failed-walk-refusal-spec : {M : Type 1} → statement M
 failed-walk-refusal-spec =

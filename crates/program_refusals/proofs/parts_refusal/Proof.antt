@@ -13,7 +13,10 @@ parts-requires : tie.Need-parts-requires
 parts-requires c κs = search rules
 
 returns : tie.Need-returns
-returns c = parts_pass File _ any_end _ _ c.before.before.root-extent.ensures c.before.parts.ensures c.if1.true
+returns c =
+    let after-root-extent = c.before.before in
+    let start = after-root-extent.before.before in
+    parts_pass File _ any_end _ _ after-root-extent.root-extent.ensures c.before.parts.ensures start.requires.1 c.if1.true
 
 failed-walk-refusal-requires : tie.Need-failed-walk-refusal-requires
 failed-walk-refusal-requires c κs = (search rules, no_end File _ any_end _ _ c.before.before.root-extent.ensures c.before.parts.ensures c.if1.false)

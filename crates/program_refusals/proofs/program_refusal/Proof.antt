@@ -1,7 +1,7 @@
 -- `program_refusal` meets its contract: one law of Refusals for each answer.
 use Rattle.meaning.specs.declared.Form.TheVariants.{File}
 use borrow.Author.Rules.{rules}
-use Rattle.program_refusals.proofs.Refusals.{too_short, long_enough, sizes_refused, length_refused, parts_refused}
+use Rattle.program_refusals.proofs.Refusals.{too_short, long_enough, has_parts_lem, sizes_refused, length_refused, parts_refused}
 use Rattle.program_refusals.proofs.program_refusal.Statement.{statement}
 use Rattle.program_refusals.proofs.program_refusal.Tie as tie
 
@@ -29,7 +29,7 @@ returns-3 c =
     length_refused File _ _ _ _ after-if1.if1.false after-sizes-allowed.sizes_allowed_lem.ensures after-if2.if2.false after-parts.parts.ensures c.before.length-of.ensures c.if3.true
 
 parts-refusal-requires : tie.Need-parts-refusal-requires
-parts-refusal-requires c κs = search long_enough
+parts-refusal-requires c κs = (search long_enough, search has_parts_lem)
 
 returns-4 : tie.Need-returns-4
 returns-4 c =

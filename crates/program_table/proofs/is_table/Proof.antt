@@ -1,5 +1,6 @@
 -- `is_table` meets its contract: bytes that pass each test are the table of the program that they hold.
 use borrow.Author.Rules.{rules}
+use Rattle.program_refusals.proofs.Refusals.{has_parts_lem}
 use Rattle.program_table.proofs.TableChecks.{table_short, table_sized, table_long, ends_refused, ends_found, rows_decide}
 use Rattle.program_table.proofs.is_table.Statement.{statement}
 use Rattle.program_table.proofs.is_table.Tie as tie
@@ -38,7 +39,7 @@ rows-match-requires : tie.Need-rows-match-requires
 rows-match-requires c κs =
     let long = c.before.before.before in
     let sizes = long.before.before.before in
-    (search rules, ends_found _ _ _ _ sizes.before.before.if1.false sizes.before.sizes_allowed_lem.ensures sizes.if2.false long.before.before.parts.ensures long.before.length-of.ensures long.if3.false _ _ c.before.before.parts-end.ensures c.before.parts2.ensures c.if4.false)
+    (record { long = search rules; there = has_parts_lem _ _ sizes.before.sizes_allowed_lem.ensures sizes.if2.false }, ends_found _ _ _ _ sizes.before.before.if1.false sizes.before.sizes_allowed_lem.ensures sizes.if2.false long.before.before.parts.ensures long.before.length-of.ensures long.if3.false _ _ c.before.before.parts-end.ensures c.before.parts2.ensures c.if4.false)
 
 returns-5 : tie.Need-returns-5
 returns-5 c =

@@ -1,6 +1,6 @@
 -- `record_allowed` meets its contract: each clause of an allowed record has its function.
 use borrow.Author.Rules.{rules}
-use Rattle.run_allowed.proofs.Running.{record_too_short, fields_refused, fields_rest, fields_pass}
+use Rattle.run_allowed.proofs.Running.{record_too_short, fields_refused, fields_pass}
 use Rattle.run_allowed.proofs.record_allowed.Statement.{statement}
 use Rattle.run_allowed.proofs.record_allowed.Tie as tie
 
@@ -17,7 +17,7 @@ clocks-allowed-requires : tie.Need-clocks-allowed-requires
 clocks-allowed-requires c κs = search rules
 
 root-allowed-requires : tie.Need-root-allowed-requires
-root-allowed-requires c κs = (search rules, (search rules, search fields_rest))
+root-allowed-requires c κs = search rules
 
 parts-allowed-requires : tie.Need-parts-allowed-requires
 parts-allowed-requires c κs = search rules

@@ -26,7 +26,7 @@ copy-inside-requires c κs =
     let clocks = phase.before.before.before.before.before in
     let start = clocks.before.before.before.before.before.before in
     let given = start.requires in
-    estimate_fit _ _ _ _ _ given.0 given.1.1.1.1.0 c.before.variables.ensures c.wide.ensures (omega (arith, given.1.1.0, clocks.start-clocks.auto, phase.store.auto))
+    estimate_fit _ _ _ _ _ given.0 given.1.1.1.0 c.before.variables.ensures c.wide.ensures (omega (arith, given.1.0, clocks.start-clocks.auto, phase.store.auto))
 
 parts-requires : tie.Need-parts-requires
 parts-requires c κs = search rules
@@ -41,7 +41,7 @@ copy-inside-requires-2 c κs =
     let clocks = phase.before.before.before.before.before in
     let start = clocks.before.before.before.before.before.before in
     let given = start.requires in
-    marks_fit _ _ _ _ _ given.0 given.1.1.1.0 c.before.parts.ensures c.index.ensures (omega (arith, given.1.1.0, clocks.start-clocks.auto, phase.store.auto, estimate.copy-inside.auto))
+    marks_fit _ _ _ _ _ given.0 given.1.1.0 c.before.parts.ensures c.index.ensures (omega (arith, given.1.0, clocks.start-clocks.auto, phase.store.auto, estimate.copy-inside.auto))
 
 same_length : tie.Need-same-length
 same_length c = search rules
@@ -56,7 +56,7 @@ returns c =
     let clocks = phase.before.before.before.before.before in
     let start = clocks.before.before.before.before.before.before in
     let given = start.requires in
-    record_committed _ _ _ _ given.0 given.1.0 given.1.1.1.1.0 given.1.1.1.1.1 _ _ _ _ _ _ _ _ _ clocks.start-clocks.ensures phase.before.phase_after.ensures phase.store.ensures after_variables.variables.ensures estimate.before.wide.ensures estimate.copy-inside.ensures after-parts.parts.ensures marks.before.index.ensures marks.copy-inside2.ensures
+    record_committed _ _ _ _ given.0 given.1.1.1.0 given.1.1.1.1 _ _ _ _ _ _ _ _ _ clocks.start-clocks.ensures phase.before.phase_after.ensures phase.store.ensures after_variables.variables.ensures estimate.before.wide.ensures estimate.copy-inside.ensures after-parts.parts.ensures marks.before.index.ensures marks.copy-inside2.ensures
 
 pub commit-spec : {M : Type 1} → statement M
 commit-spec =

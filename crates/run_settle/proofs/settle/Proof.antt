@@ -34,7 +34,7 @@ commit-requires c κs =
     let after-enum-told = c.before.before in
     let after-judge = after-enum-told.before.before.before in
     let x = to_commit _ _ _ _ _ after-judge.judge.ensures after-enum-told.enum_told.given.1 in
-    (x.0, (x.1.0, (x.1.1.0, (omega (arith, parts_fit _ x.0), x.1.1.1))))
+    (x.0, (x.1.0, (omega (arith, parts_fit _ x.0), x.1.1)))
 
 slice-aggregate-at : tie.Need-slice-aggregate-at
 slice-aggregate-at c = search rules

@@ -54,7 +54,6 @@ pub fn too_deep() -> (Program, Vec<u8>) {
     let root = (0..MAX_DEPTH).fold(spread_goal(0), |child, _| repeat(child));
     let file = file(MAX_VARIABLES, MAX_CLOCKS, &root);
     let sizes = Sizes::read(&file).expect("a file has its sizes");
-    let root = Some(root);
     (Program { sizes, root }, file)
 }
 

@@ -14,7 +14,7 @@ use crate::harness::{
 /// Small programs of each shape.
 fn small_programs(rng: &mut Rng) -> Vec<Vec<u8>> {
     let mut files = Vec::new();
-    for parts in [0, 1, 2, 3, 4, 5, 6, 8] {
+    for parts in [1, 2, 3, 4, 5, 6, 8] {
         for shape in [Shape::Deep, Shape::Wide, Shape::Mixed] {
             files.push(program(rng, parts, 5, shape).file());
         }
@@ -116,7 +116,7 @@ fn cut_inputs() {
 fn output_lengths() {
     let mut rng = Rng::new(17);
     let mut tally = Tally::default();
-    for parts in [0, 1, 2, 3, 20, MAX_PARTS] {
+    for parts in [1, 2, 3, 20, MAX_PARTS] {
         let file = program(&mut rng, parts, MAX_DEPTH, Shape::Mixed).file();
         let table = model::read(&file).expect("a valid program").table();
         for len in 0..=table.len() + 10 {
@@ -127,5 +127,5 @@ fn output_lengths() {
         }
     }
     assert_counts(file!(), "output_lengths", &tally.counts());
-    tally.require_exactly("output lengths", DONE, 6 * 2 * 11);
+    tally.require_exactly("output lengths", DONE, 5 * 2 * 11);
 }

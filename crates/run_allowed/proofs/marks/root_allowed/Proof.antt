@@ -1,6 +1,8 @@
 -- `root_allowed` meets its contract: the two phases that it tells apart are the definition's.
 use mathlib.Core.Path.{refl}
 use borrow.Author.Rules.{rules}
+use Rattle.run_record.proofs.Marks.{mark_inside}
+use Rattle.meaning.proofs.Tables.{root_there}
 use Rattle.run_allowed.proofs.Places.{marks_long}
 use Rattle.run_allowed.proofs.Markings.{root_over, root_runs}
 use Rattle.run_allowed.proofs.marks.root_allowed.Statement.{statement}
@@ -19,7 +21,7 @@ returns : tie.Need-returns
 returns c = search root_over
 
 is-marked-requires : tie.Need-is-marked-requires
-is-marked-requires c κs = search rules
+is-marked-requires c κs = search (mark_inside, root_there)
 
 returns-2 : tie.Need-returns-2
 returns-2 c = search root_runs
