@@ -1,5 +1,6 @@
 // `assemble TEXT` writes the program file of the program that is typed as text in a file, and `assemble` that of the
 // text on standard input.
+#![tactic(auto)]
 ghost use Rattle.std.specs.Prelude.{length};
 ghost use Rattle.desk_input.specs.Reading.{FitsBuffer};
 

@@ -1,5 +1,7 @@
 // Reads and writes of bytes, and plain functions on lists with their laws; no word of landers. A function that
 // requires no bound works at every place: beyond the end it reads 0 and writes nothing.
+#![tactic(auto)]
+
 ghost use Rattle.std.specs.Prelude.{◌≡◌, ◌+◌, ◌<◌, ◌≤◌, ◌^◌, length, get_or, set, replicate};
 ghost use Rattle.std.proofs.lemmas.List.Edits.{sets};
 ghost use Rattle.base.specs.Lists.{bytes_at, same};

@@ -1,5 +1,6 @@
 // What the arguments of the commands at the desk ask for, and what a command prints where it is given no file to work
 // on.
+#![tactic(auto)]
 pub mod messages;
 pub mod requests;
 

@@ -1,5 +1,6 @@
 // Reading files in pieces. No contract can say which bytes come; these say how many the buffer holds then, and that
 // the bytes before them stay.
+#![tactic(auto)]
 ghost use Rattle.std.specs.Prelude.{◌≡◌, ◌+◌, ◌<◌, ◌≤◌, ◌^◌, length};
 ghost use Rattle.desk_input.specs.Reading.{is_open, piece_of, Reads, Whole, FileRead};
 

@@ -1,4 +1,5 @@
 // The text of a listing: the sizes and a line for each part, or the number of a refusal.
+#![tactic(auto)]
 pub mod lines;
 pub mod rows;
 

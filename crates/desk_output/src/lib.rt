@@ -1,4 +1,5 @@
 // Prints texts and messages. No contract can say what the writes did.
+#![tactic(auto)]
 ghost use Rattle.std.specs.Prelude.{◌≤◌, length};
 
 use desk_arguments::messages::{MAX_MESSAGE, is_asked, write_message};

@@ -1,4 +1,5 @@
 // Reads words, which spaces separate, decimal numbers and pairs of hexadecimal digits.
+#![tactic(auto)]
 pub mod decimal;
 pub mod hexadecimal;
 

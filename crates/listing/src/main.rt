@@ -1,4 +1,5 @@
 // `listing PROGRAM` prints the listing of a program file, and `listing` that of the program file on standard input.
+#![tactic(auto)]
 ghost use Rattle.std.specs.Prelude.{length};
 ghost use Rattle.desk_input.specs.Reading.{FitsBuffer};
 

@@ -1,4 +1,5 @@
 // The operation that decompiles: it writes the program file of a location table (9, 8).
+#![tactic(auto)]
 pub mod arrays;
 
 ghost use Rattle.std.specs.Prelude.{◌≡◌, ◌≤◌, length};

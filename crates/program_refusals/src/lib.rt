@@ -1,4 +1,5 @@
 // Whether bytes are a program file: the refusals 1 to 7.
+#![tactic(auto)]
 pub mod scan;
 
 ghost use Rattle.std.specs.Prelude.{◌≡◌, ◌≤◌, length};

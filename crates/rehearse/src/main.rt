@@ -2,6 +2,7 @@
 // prints what each answers; `rehearse PROGRAM parts` prints the marked parts under each answer. The program is a program
 // file or a text. What a line comes to stands in `desk_rehearsal`, what a text comes to in `desk_assembly`, and what the
 // arguments ask for in `desk_arguments`; here are reads and writes.
+#![tactic(auto)]
 mod lines;
 
 use crate::lines::rehearse;
