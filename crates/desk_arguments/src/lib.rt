@@ -5,7 +5,7 @@ pub mod messages;
 pub mod requests;
 
 // The commands that take arguments.
-#[derive(Drop)]
+#[derive(Clone, Copy)]
 pub enum Command {
     Assemble,
     Listing,
@@ -14,7 +14,7 @@ pub enum Command {
 
 // What the arguments ask for. `Usage` is for arguments that the command does not take, `LongName` for a file name
 // that is longer than any path, and `Input` for no file name at all.
-#[derive(Drop)]
+#[derive(Clone, Copy)]
 pub enum Request {
     Help,
     Usage,

@@ -11,7 +11,7 @@ use program_part::layout::{length_of, parts};
 use text_assemble::{assemble, stop_place};
 
 // The answer to a text, and the length of its program file; where it is refused, the length of the words.
-#[derive(Drop)]
+#[derive(Clone, Copy)]
 pub struct Assembly {
     pub answer: Answer,
     pub length: usize,

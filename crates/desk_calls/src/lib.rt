@@ -13,7 +13,7 @@ use desk_parse::{Numeral, Pairs, rest_of, trimmed, word_of};
 
 // What a line says. `Passed` is a line with no word, or a comment. `Begin` and `Settle` have the number of bytes of
 // the estimate, which are stored in a buffer. `Offer` has a time, `OfferInto` a time and the goal buffer's length.
-#[derive(Drop)]
+#[derive(Clone, Copy)]
 pub enum Line {
     Passed,
     Begin(usize),

@@ -5,7 +5,7 @@ pub mod making;
 
 // What one line leads to: the length of the text that is written for it, the count of cycles after it, and whether
 // it ends the run.
-#[derive(Drop)]
+#[derive(Clone, Copy)]
 pub struct Turn {
     pub length: usize,
     pub cycles: u64,

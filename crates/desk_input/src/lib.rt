@@ -5,7 +5,7 @@ ghost use Rattle.std.specs.Prelude.{◌≡◌, ◌+◌, ◌<◌, ◌≤◌, ◌^
 ghost use Rattle.desk_input.specs.Reading.{is_open, piece_of, Reads, Whole, FileRead};
 
 // What a read comes to: it fails, or the buffer holds so many bytes.
-#[derive(Drop)]
+#[derive(Clone, Copy)]
 pub enum Piece {
     Failed,
     Held(usize),

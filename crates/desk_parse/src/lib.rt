@@ -10,14 +10,14 @@ ghost use Rattle.desk_parse.specs.Places.{place_of};
 use base::at;
 
 // A number below 2^32 in decimal, or a word that is none.
-#[derive(Drop)]
+#[derive(Clone, Copy)]
 pub enum Numeral {
     Value(u32),
     NoNumber,
 }
 
 // How many bytes pairs of hexadecimal digits gave, or a fault in them.
-#[derive(Drop)]
+#[derive(Clone, Copy)]
 pub enum Pairs {
     Whole(usize),
     Broken,

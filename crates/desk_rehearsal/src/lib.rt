@@ -19,7 +19,7 @@ pub const MAX_LINE: usize = 4095;
 
 // Whether a program file is accepted, and the length of its table; where it is refused, the length of the text that
 // says why.
-#[derive(Drop)]
+#[derive(Clone, Copy)]
 pub struct Opened {
     pub accepted: bool,
     pub length: usize,

@@ -20,14 +20,14 @@ pub fn index(p: Number) -> usize
 }
 
 // Where a program is held: in a program file or in a location table.
-#[derive(Drop)]
+#[derive(Clone, Copy)]
 pub enum Form {
     File,
     Table,
 }
 
 // An operand of 4 bytes: b0, b1, and b2 and b3 as one 16-bit value.
-#[derive(Drop)]
+#[derive(Clone, Copy)]
 pub struct Operand {
     pub b0: u8,
     pub b1: u8,
@@ -36,7 +36,7 @@ pub struct Operand {
 }
 
 // What a program holds of one part: its kind byte and its operand.
-#[derive(Drop)]
+#[derive(Clone, Copy)]
 pub struct Entry {
     pub kind: u8,
     pub operand: Operand,
@@ -44,7 +44,7 @@ pub struct Entry {
 
 // What a condition comes to: satisfied, violated (document 01's term: its opposite is satisfied), or
 // open (document 02's: neither).
-#[derive(Drop)]
+#[derive(Clone, Copy)]
 pub enum Outcome {
     Satisfied,
     Violated,
@@ -53,7 +53,7 @@ pub enum Outcome {
 
 // What becomes of a marked part at a settling: it stays marked, it ends, or it is a CHOICE that takes
 // its first or its second child.
-#[derive(Drop)]
+#[derive(Clone, Copy)]
 pub enum Transition {
     Stays,
     Ends,
@@ -62,7 +62,7 @@ pub enum Transition {
 }
 
 // Why a call is refused: the names of the numbers in specs/Answers.antt and in the header.
-#[derive(Drop)]
+#[derive(Clone, Copy)]
 pub enum Refusal {
     FileTooShort,
     SizeOutOfRange,
@@ -83,14 +83,14 @@ pub enum Refusal {
 }
 
 // What a call that gives no value answers.
-#[derive(Drop)]
+#[derive(Clone, Copy)]
 pub enum Answer {
     Done,
     Refused(Refusal),
 }
 
 // What an offer answers: a refusal, that no variable is contested, or the lowest that is.
-#[derive(Drop)]
+#[derive(Clone, Copy)]
 pub enum OfferAnswer {
     Refused(Refusal),
     Agreed,
@@ -98,7 +98,7 @@ pub enum OfferAnswer {
 }
 
 // What a settling answers: a refusal, or whether the run goes on.
-#[derive(Drop)]
+#[derive(Clone, Copy)]
 pub enum SettleAnswer {
     Refused(Refusal),
     Running,

@@ -76,7 +76,7 @@ pub fn condition_allowed(variables: u8, clocks: u8, o: Operand) -> bool
 }
 
 // How many children follow a part, or that its operand is not allowed.
-#[derive(Drop)]
+#[derive(Clone, Copy)]
 pub enum Children {
     Count(Number),
     NotAllowed,

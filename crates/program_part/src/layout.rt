@@ -46,7 +46,7 @@ pub fn clocks(s: &[u8]) -> u8
     at(s, CLOCKS_PLACE)
 }
 
-#[derive(Drop)]
+#[derive(Clone, Copy)]
 pub struct Sizes {
     pub parts: Number,
     pub variables: u8,

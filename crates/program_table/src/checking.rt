@@ -57,7 +57,7 @@ pub(crate) fn parts_end(t: &[u8], p: Number, count: Number, outer: u8) -> Number
 }
 
 // What a row says of its part's place in the tree.
-#[derive(Drop)]
+#[derive(Clone, Copy)]
 pub struct Links {
     pub end: Number,
     pub parent: Number,

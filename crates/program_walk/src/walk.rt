@@ -17,7 +17,7 @@ use program_part::kinds::{Children, children_of};
 use program_part::layout::{Sizes, read_sizes};
 
 // The way of the walk at a part: down into it, up out of it, or both at once where it has no children.
-#[derive(Drop)]
+#[derive(Clone, Copy)]
 pub enum Way {
     Down,
     Up,
@@ -101,7 +101,7 @@ pub(crate) fn parts_end(s: &[u8], p: Number, count: Number, outer: u8, steps: &m
 }
 
 // Where a walk over a whole file ended, and how many steps it took.
-#[derive(Drop)]
+#[derive(Clone, Copy)]
 pub struct Walked {
     pub end: Number,
     pub steps: u32,

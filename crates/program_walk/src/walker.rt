@@ -9,7 +9,7 @@ ghost use Rattle.program_part.specs.Readable.{Readable};
 use meaning::{Entry, Form, Number};
 use program_part::layout::read_entry;
 
-#[derive(Drop)]
+#[derive(Clone, Copy)]
 pub struct Walker<'a> {
     pub file: &'a [u8],
     pub next: Number,

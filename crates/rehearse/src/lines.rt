@@ -14,7 +14,7 @@ use meaning::sizes::RECORD;
 // The state of a rehearsal. The input buffer holds `held` bytes, of which those from place `from` on are still to be
 // answered; `number` is how many lines are answered, and `cycles` the count of cycles. The rehearsal goes on while
 // `going` is true; after that `complete` says whether all of the input is answered.
-#[derive(Drop)]
+#[derive(Clone, Copy)]
 struct Stand {
     from: usize,
     held: usize,

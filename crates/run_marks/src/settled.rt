@@ -22,7 +22,7 @@ use run_record::fields::is_marked;
 // The lowest marked part after a part, by the marks before and after the settling; the number of
 // parts where none is marked. It spares looking into a part: something is marked inside it where
 // the lowest marked part after it stands before its end.
-#[derive(Drop)]
+#[derive(Clone, Copy)]
 pub struct Lowest {
     pub old: Number,
     pub new: Number,

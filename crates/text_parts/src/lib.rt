@@ -21,7 +21,7 @@ const BYTE: u16 = BYTE_VALUES as u16;
 const MAX_BYTE: u8 = (BYTE - 1) as u8;
 
 // What is joined: steps, by `;`, or sequences, by `,`.
-#[derive(Drop)]
+#[derive(Clone, Copy)]
 pub enum Level {
     Steps,
     Sequences,

@@ -168,7 +168,7 @@ pub(crate) fn start(t: &[u8], from: u16, parts: &mut [u8], n: u16) -> Read
 }
 
 // How many opening brackets stand together, and the place after them.
-#[derive(Drop)]
+#[derive(Clone, Copy)]
 pub struct Opened {
     pub count: u16,
     pub place: u16,
