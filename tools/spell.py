@@ -2,9 +2,10 @@
 """Spells the definitions and lemmas of this repository as today's Rattle does: words in snake case, a dash only between the
 names of two functions or facts, and `_lem` after a lemma that would have its function's name.
 
-usage: tools/spell.py [FOLDER]      FOLDER: a checkout of this repository, brought to today's Rattle; this one by default
+usage: tools/spell.py [FOLDER [TABLE]]      FOLDER: a checkout of this repository, brought to today's Rattle; this one by default
 
-tools/spelling.tsv has a row for each name: old, a tab, new. What turns: names in .antt files; in .rt files and must-fail
+TABLE has a row for each name: old, a tab, new. It is spelling.tsv beside this script by default; spelling-rest.tsv has the names
+that were left, and is run after it. What turns: names in .antt files; in .rt files and must-fail
 edits; in the code spans and code blocks of README.md and docs/. A name that a file imports from a library stays there.
 It is run once, right after port.py: some old names are others' new ones.
 """
@@ -19,8 +20,8 @@ USE = re.compile(r"^[ \t]*(?:pub )?(?:ghost )?use\s+([^\s;{]+?)(?:\.?\{([^}]*)\}
 SPAN = re.compile(r"(^```.*?^```|`[^`\n]+`)", re.M | re.S)
 
 
-def table():
-    with open(os.path.join(HERE, "spelling.tsv"), encoding="utf-8") as f:
+def table(path):
+    with open(path, encoding="utf-8") as f:
         return dict(line.rstrip("\n").split("\t") for line in f if line.strip())
 
 
@@ -51,7 +52,7 @@ def is_rust(name):
 
 def main():
     root = sys.argv[1] if len(sys.argv) > 1 else os.path.dirname(HERE)
-    names = table()
+    names = table(sys.argv[2] if len(sys.argv) > 2 else os.path.join(HERE, "spelling.tsv"))
     of_clauses = {old: new for old, new in names.items() if not is_rust(old)}
     crates = set(os.listdir(os.path.join(root, "crates")))
     changed = 0

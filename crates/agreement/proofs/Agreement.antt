@@ -21,7 +21,7 @@ use Rattle.meaning.specs.Table.{table_of, compiled, is_table}
 use Rattle.meaning.specs.Conditions.{Situation}
 use Rattle.meaning.specs.Record.{waiting, offered, finished, record_bytes, record_length, started_flag, estimate_byte_allowed, root_allowed, parts_allowed, record_allowed, clock_allowed}
 use Rattle.meaning.specs.Cycle.{initial_marks, begin_refusal, begun_into, leaves_from, goal_bytes, root_ended, works_from, estimate_allowed, offer_refusal, checked_marks, offered_record, offered_goals, offered_name, offered_into, goals_into, settled_marks, settle_refusal, settled_record, settled_into, clocks_after}
-use Rattle.meaning.specs.Answers.{bufferTooShort, wrongPhase, timeBeforeLast, estimateNotAllowed, runFinished}
+use Rattle.meaning.specs.Answers.{buffer_too_short, wrong_phase, time_before_last, estimate_not_allowed, run_finished}
 use Rattle.meaning.proofs.Files.{accepted_file}
 use Rattle.meaning.proofs.Tables.{table_holds, table_accepted, tree_table, compiled_is}
 use Rattle.meaning.proofs.Entries.{length_goals}
@@ -163,10 +163,10 @@ module _ (v k : ℕ) (p : Part) (w : Within v k p) where
 
   offer_waits : (phase time now room : ℕ) (est started starts : List ℕ) (rest : Option (Rest p)) → Phase phase rest
       → refusal_of p v (state_of phase time est started starts rest) (offering now room) ≡ 0 → Waiting time now room rest
-  offer_waits phase time now room est started starts none h z = absurd (let bad : ◌≡◌ {A = ℕ} runFinished 0 = rw h at z in omega arith)
+  offer_waits phase time now room est started starts none h z = absurd (let bad : ◌≡◌ {A = ℕ} run_finished 0 = rw h at z in omega arith)
   offer_waits phase time now room est started starts (some r) (inr h) z = absurd (let bad : ◌≡◌ {A = ℕ} 11 0 = rw h at z in omega arith)
   offer_waits phase time now room est started starts (some r) (inl h) z =
-      let tests = none_fails ((runFinished, not (eqb phase finished)) ∷ (wrongPhase, not (eqb phase offered)) ∷ (timeBeforeLast, leb time now) ∷ (bufferTooShort, leb v room) ∷ []) refl z in
+      let tests = none_fails ((run_finished, not (eqb phase finished)) ∷ (wrong_phase, not (eqb phase offered)) ∷ (time_before_last, leb time now) ∷ (buffer_too_short, leb v room) ∷ []) refl z in
       record { remaining = r; is = refl; later = leb-true time now tests.1.1.0; room_enough = leb-true v room tests.1.1.1.0 }
 
   -- what a settling that is not refused has found
@@ -179,9 +179,9 @@ module _ (v k : ℕ) (p : Part) (w : Within v k p) where
   settle_waits : (phase time : ℕ) (est started starts new : List ℕ) (rest : Option (Rest p)) → Phase phase rest
       → refusal_of p v (state_of phase time est started starts rest) (settled new) ≡ 0 → Offered new rest
   unfolding estimate_allowed
-  settle_waits phase time est started starts new none h z = absurd (let bad : ◌≡◌ {A = ℕ} runFinished 0 = rw h at z in omega arith)
+  settle_waits phase time est started starts new none h z = absurd (let bad : ◌≡◌ {A = ℕ} run_finished 0 = rw h at z in omega arith)
   settle_waits phase time est started starts new (some r) h z =
-      let tests = none_fails ((runFinished, not (eqb phase finished)) ∷ (wrongPhase, not (eqb phase waiting)) ∷ (estimateNotAllowed, estimate_allowed v new) ∷ []) refl z in
+      let tests = none_fails ((run_finished, not (eqb phase finished)) ∷ (wrong_phase, not (eqb phase waiting)) ∷ (estimate_not_allowed, estimate_allowed v new) ∷ []) refl z in
       let allowed = tests.1.1.0 in
       record { remaining = r; is = refl; long = eqb-true (length new) v (and_left (eqb (length new) v) (all estimate_byte_allowed new) allowed); estimate_allowed_lem = and_right (eqb (length new) v) (all estimate_byte_allowed new) allowed }
 
@@ -358,9 +358,9 @@ module _ (v k : ℕ) (p : Part) (w : Within v k p) where
   -- what a refusal's number can be
   refusal_possible : (st : State p) (c : Fed) → possible (refused (refusal_of p v st c)) ≡ true
   refusal_possible st (offering now room) =
-      failing_passes (λ n. possible (refused n)) ((runFinished, not (eqb st.phase finished)) ∷ (wrongPhase, not (eqb st.phase offered)) ∷ (timeBeforeLast, leb st.time now) ∷ (bufferTooShort, leb v room) ∷ []) refl refl
+      failing_passes (λ n. possible (refused n)) ((run_finished, not (eqb st.phase finished)) ∷ (wrong_phase, not (eqb st.phase offered)) ∷ (time_before_last, leb st.time now) ∷ (buffer_too_short, leb v room) ∷ []) refl refl
   refusal_possible st (settled new) =
-      failing_passes (λ n. possible (refused n)) ((runFinished, not (eqb st.phase finished)) ∷ (wrongPhase, not (eqb st.phase waiting)) ∷ (estimateNotAllowed, estimate_allowed v new) ∷ []) refl refl
+      failing_passes (λ n. possible (refused n)) ((run_finished, not (eqb st.phase finished)) ∷ (wrong_phase, not (eqb st.phase waiting)) ∷ (estimate_not_allowed, estimate_allowed v new) ∷ []) refl refl
 
   given_possible : (st : State p) (c : Fed) → possible (accepted_reply p v st c) ≡ true
   given_possible st (offering now room) = refl
@@ -421,7 +421,7 @@ module _ (v k : ℕ) (p : Part) (w : Within v k p) where
   begun_held est r h = begun_bytes t est r h length_begun ∙ rw (initial_lies t p lies, clocks_are)
 
   -- a beginning is refused by 13 or 8
-  begin_refusal_lem : (est : List ℕ) (room : ℕ) → begin_refusal t est room ≡ first_failing ((estimateNotAllowed, estimate_allowed v est) ∷ (bufferTooShort, leb record_length room) ∷ [])
+  begin_refusal_lem : (est : List ℕ) (room : ℕ) → begin_refusal t est room ≡ first_failing ((estimate_not_allowed, estimate_allowed v est) ∷ (buffer_too_short, leb record_length room) ∷ [])
   unfolding begin_refusal
   begin_refusal_lem est room = rw (table, variables_are)
 

@@ -8,7 +8,7 @@ use Rattle.meaning.specs.Sizes.{length_of}
 use Rattle.meaning.specs.Tree.{Part}
 use Rattle.meaning.specs.Program.{parts, variables, clocks, tree_of}
 use Rattle.meaning.specs.Record.{phase_of, last_time, estimate_in, started_in, starts_in, record_length, finished}
-use Rattle.meaning.specs.Answers.{answered, bufferTooShort, estimateNotAllowed}
+use Rattle.meaning.specs.Answers.{answered, buffer_too_short, estimate_not_allowed}
 use Rattle.meaning.specs.Operations.{Offered, Settled}
 use Rattle.meaning.specs.Cycle.{estimate_allowed}
 use Rattle.agreement.specs.Runs.{Call, offer, settling, Reply, refused, goals, running, done, State, begin, tree_replies, tree_after, tree_finishing, settling_count, possible, Timed}
@@ -72,6 +72,6 @@ pub record CallsAlike (t r : List ℕ) (p : Part) (v : ℕ) (st : State p) (ms :
 pub record OperationsAlike (f t est r : List ℕ) (answer : ℕ) (r' : List ℕ) : Type 0 where
   pub program : Part
   pub tree_is : tree_of File f ≡ some program
-  pub beginning : answer ≡ first_failing ((estimateNotAllowed, estimate_allowed (variables f) est) ∷ (bufferTooShort, leb record_length (length r)) ∷ [])
+  pub beginning : answer ≡ first_failing ((estimate_not_allowed, estimate_allowed (variables f) est) ∷ (buffer_too_short, leb record_length (length r)) ∷ [])
   pub unbegun : (answer ≡ 0 → ⊥) → r' ≡ r
   pub begun : answer ≡ 0 → (ms : List Made) → AllPromised t r' ms → Timed (map call_of ms) → CallsAlike t r' program (variables f) (begin program (clocks f) est) ms

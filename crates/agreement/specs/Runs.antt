@@ -14,7 +14,7 @@ use Rattle.meaning.specs.Table.{compiled}
 use Rattle.meaning.specs.Conditions.{Situation}
 use Rattle.meaning.specs.Record.{phase_of, last_time, estimate_in, started_in, starts_in, record_length, started_flag, waiting, offered, finished}
 use Rattle.meaning.specs.Cycle.{begin_refusal, begun_into, is_kind, gives_to, goal_bytes, offer_refusal, offered_name, offered_into, goals_into, settle_refusal, settled_into, estimate_allowed}
-use Rattle.meaning.specs.Answers.{bufferTooShort, notATable, recordNotAllowed, wrongPhase, timeBeforeLast, estimateNotAllowed, runFinished, nothingAtWork, noVariable}
+use Rattle.meaning.specs.Answers.{buffer_too_short, not_a_table, record_not_allowed, wrong_phase, time_before_last, estimate_not_allowed, run_finished, nothing_at_work, no_variable}
 use Rattle.agreement.specs.Unfolding.{Rest, afresh, check, working, settle}
 
 -- A call: an offer's time and goal buffer, or a settling's estimate
@@ -54,7 +54,7 @@ is_contested es v = any (λ e. gives_to v e && any (gives_other v (value e.opera
 -- "The offer now names the lowest-numbered contested variable. … comparing two runs includes this name" (document 02, R-1): of the n variables
 -- from v on, by the leaves at work and never by goal bytes; 255 where none is contested
 unfoldable pub lowest_at_work : List Entry → ℕ → ℕ → ℕ
-lowest_at_work es v zero = noVariable
+lowest_at_work es v zero = no_variable
 lowest_at_work es v (suc n) = cond (is_contested es v) v (lowest_at_work es (suc v) n)
 
 -- "From now on every marked START sets its clock to the cycle's time. … Table and tree are both compared under this rule" (document 02, R-2): the flags or
@@ -97,8 +97,8 @@ module _ (p : Part) where
 
   -- "refusals 8 and 11 to 14 are as above", in the order of the operations
   abbrev pub refusal_of : ℕ → State p → Fed → ℕ
-  refusal_of v st (offering time room) = first_failing ((runFinished, not (eqb st.phase finished)) ∷ (wrongPhase, not (eqb st.phase offered)) ∷ (timeBeforeLast, leb st.time time) ∷ (bufferTooShort, leb v room) ∷ [])
-  refusal_of v st (settled est) = first_failing ((runFinished, not (eqb st.phase finished)) ∷ (wrongPhase, not (eqb st.phase waiting)) ∷ (estimateNotAllowed, estimate_allowed v est) ∷ [])
+  refusal_of v st (offering time room) = first_failing ((run_finished, not (eqb st.phase finished)) ∷ (wrong_phase, not (eqb st.phase offered)) ∷ (time_before_last, leb st.time time) ∷ (buffer_too_short, leb v room) ∷ [])
+  refusal_of v st (settled est) = first_failing ((run_finished, not (eqb st.phase finished)) ∷ (wrong_phase, not (eqb st.phase waiting)) ∷ (estimate_not_allowed, estimate_allowed v est) ∷ [])
 
   -- what conditions are judged by
   abbrev pub situation_of : State p → List ℕ → ℕ → Situation
@@ -181,7 +181,7 @@ tree_finishing p v st n (c ∷ cs) = cond (eqb st.phase finished) (some n) (tree
 
 -- the replies of a run never refuse with 9, 10 or 15
 abbrev pub possible : Reply → Bool
-possible (refused n) = not (eqb n notATable || (eqb n recordNotAllowed || eqb n nothingAtWork))
+possible (refused n) = not (eqb n not_a_table || (eqb n record_not_allowed || eqb n nothing_at_work))
 possible (goals g n) = true
 possible running = true
 possible done = true
@@ -209,6 +209,6 @@ Timed (settling est ∷ cs) = Timed cs
 pub record RunsAlike (f est r : List ℕ) (cs : List Call) : Type 0 where
   pub program : Part
   pub tree_is : tree_of File f ≡ some program
-  pub beginning : begin_refusal (compiled File f) est (length r) ≡ first_failing ((estimateNotAllowed, estimate_allowed (variables f) est) ∷ (bufferTooShort, leb record_length (length r)) ∷ [])
+  pub beginning : begin_refusal (compiled File f) est (length r) ≡ first_failing ((estimate_not_allowed, estimate_allowed (variables f) est) ∷ (buffer_too_short, leb record_length (length r)) ∷ [])
   pub unbegun : (begin_refusal (compiled File f) est (length r) ≡ 0 → ⊥) → begun_into (compiled File f) est r ≡ r
   pub begun : begin_refusal (compiled File f) est (length r) ≡ 0 → Alike (compiled File f) (begun_into (compiled File f) est r) program (variables f) (begin program (clocks f) est) cs

@@ -20,8 +20,8 @@ use Rattle.meaning.specs.Program.{variables, clocks, program_tests, program_refu
 use Rattle.meaning.specs.Table.{compiled, compile_tests, compile_refusal, compiled_into, file_in, is_table, decompile_tests, decompile_refusal, decompiled_into}
 use Rattle.meaning.specs.Record.{estimate_byte_allowed, waiting, finished}
 use Rattle.meaning.specs.Cycle.{estimate_allowed, begin_tests, begin_refusal, fresh_record, begun_into, offer_tests, offer_refusal, offered_name, offered_into, goals_into, settle_tests, settle_refusal, settled_marks, settled_into, root_ended}
-use Rattle.meaning.specs.Answers.{answered, answering, notATable}
-use Rattle.meaning.proofs.Answers.{told-refusal, told-given, told-accepted}
+use Rattle.meaning.specs.Answers.{answered, answering, not_a_table}
+use Rattle.meaning.proofs.Answers.{told_refusal, told_given, told_accepted}
 use Rattle.meaning.proofs.Files.{accepted_file, file_accepted}
 use Rattle.meaning.proofs.Refusals.{compile_first, compile_accepts, offer_refused, goals_refused, settle_refused}
 use Rattle.agreement.specs.Calls.{table_in}
@@ -145,43 +145,43 @@ demand_1 =
       offers =
           λ t r time goals answer r' goals' o.
           answers (offer_tests t r time (length goals)) refl (offer_refusal t r time (length goals)) refl answer
-          (λ h. (told-refusal _ _ answer o.answer_is h, (o.record_is ∙ offer_refused t r time (length goals) h, o.goals_are ∙ goals_refused t r time goals h)))
-          (λ z. (told-given _ _ answer o.answer_is z, o.record_is ∙ rw z, o.goals_are ∙ rw z));
+          (λ h. (told_refusal _ _ answer o.answer_is h, (o.record_is ∙ offer_refused t r time (length goals) h, o.goals_are ∙ goals_refused t r time goals h)))
+          (λ z. (told_given _ _ answer o.answer_is z, o.record_is ∙ rw z, o.goals_are ∙ rw z));
       settles =
           λ t r est answer r' s.
           answers (settle_tests t r est) refl (settle_refusal t r est) refl answer
-          (λ h. (told-refusal _ _ answer s.answer_is h, s.record_is ∙ settle_refused t r est h))
-          (λ z. (told-given _ _ answer s.answer_is z ∙ settling_told (root_ended (settled_marks t r est)), s.record_is ∙ rw z));
+          (λ h. (told_refusal _ _ answer s.answer_is h, s.record_is ∙ settle_refused t r est h))
+          (λ z. (told_given _ _ answer s.answer_is z ∙ settling_told (root_ended (settled_marks t r est)), s.record_is ∙ rw z));
     }
 
 -- Demand 2. The first of the tests is that of a table, and no other has its number
-nine_first : (b : Bool) (rest : List (ℕ × Bool)) → all (λ u. not (eqb u.0 notATable)) rest ≡ true → (first_failing ((notATable, b) ∷ rest) ≡ notATable) ↔ (b ≡ false)
+nine_first : (b : Bool) (rest : List (ℕ × Bool)) → all (λ u. not (eqb u.0 not_a_table)) rest ≡ true → (first_failing ((not_a_table, b) ∷ rest) ≡ not_a_table) ↔ (b ≡ false)
 nine_first true rest h = (
-  λ e. absurd (eqb-false (first_failing rest) notATable (not-true (eqb (first_failing rest) notATable) (failing_passes (λ n. not (eqb n notATable)) rest refl h)) e),
+  λ e. absurd (eqb-false (first_failing rest) not_a_table (not-true (eqb (first_failing rest) not_a_table) (failing_passes (λ n. not (eqb n not_a_table)) rest refl h)) e),
   λ e. absurd (false≢true (sym e)),
 )
 nine_first false rest h = (λ e. refl, λ e. refl)
 
 -- An answer that tells refusal n, where there is one, is 9 exactly where n is
-told_nine : (n answer : ℕ) → ((n ≡ 0 → ⊥) → answer ≡ n) → (n ≡ 0 → answer ≡ notATable → ⊥) → (answer ≡ notATable) ↔ (n ≡ notATable)
+told_nine : (n answer : ℕ) → ((n ≡ 0 → ⊥) → answer ≡ n) → (n ≡ 0 → answer ≡ not_a_table → ⊥) → (answer ≡ not_a_table) ↔ (n ≡ not_a_table)
 told_nine n answer refused done = (go (eqb n 0) refl, λ e. refused (λ z. omega (arith, e, z)) ∙ e)
   where
-    go : (b : Bool) → eqb n 0 ≡ b → answer ≡ notATable → n ≡ notATable
+    go : (b : Bool) → eqb n 0 ≡ b → answer ≡ not_a_table → n ≡ not_a_table
     go true z e = absurd (done (eqb-true n 0 z) e)
     go false z e = sym (refused (eqb-false n 0 z)) ∙ e
 
 -- a call whose first test is that of a table: 9 is its refusal exactly where no file gives the table
-module _ (t : List ℕ) (tests : List (ℕ × Bool)) (first : tests ≡ (notATable, is_table t) ∷ drop 1 tests) (others : all (λ u. not (eqb u.0 notATable)) (drop 1 tests) ≡ true) where
-  refuses : (n answer : ℕ) → n ≡ first_failing tests → ((n ≡ 0 → ⊥) → answer ≡ n) → (n ≡ 0 → answer ≡ notATable → ⊥) → (answer ≡ notATable) ↔ NoFile t
+module _ (t : List ℕ) (tests : List (ℕ × Bool)) (first : tests ≡ (not_a_table, is_table t) ∷ drop 1 tests) (others : all (λ u. not (eqb u.0 not_a_table)) (drop 1 tests) ≡ true) where
+  refuses : (n answer : ℕ) → n ≡ first_failing tests → ((n ≡ 0 → ⊥) → answer ≡ n) → (n ≡ 0 → answer ≡ not_a_table → ⊥) → (answer ≡ not_a_table) ↔ NoFile t
   refuses n answer n-is refused done =
       Iff.trans (told_nine n answer refused done) (Iff.trans (rw (n-is ∙ ap first_failing first) (nine_first (is_table t) (drop 1 tests) others)) (inverses.none_gives t))
 
   -- where the answer is the refusal's number or 0, and where it is that number or one from 256 on
-  refuses_or_0 : (answer : ℕ) → answer ≡ first_failing tests → (answer ≡ notATable) ↔ NoFile t
+  refuses_or_0 : (answer : ℕ) → answer ≡ first_failing tests → (answer ≡ not_a_table) ↔ NoFile t
   refuses_or_0 answer a = refuses answer answer a (λ h. refl) (λ z e. omega (arith, z, e))
 
-  refuses_or_more : (given answer : ℕ) → answer ≡ answering (first_failing tests) given → (answer ≡ notATable) ↔ NoFile t
-  refuses_or_more given answer a = refuses (first_failing tests) answer refl (told-refusal _ given answer a) (λ z e. omega (arith, told-given _ given answer a z, e))
+  refuses_or_more : (given answer : ℕ) → answer ≡ answering (first_failing tests) given → (answer ≡ not_a_table) ↔ NoFile t
+  refuses_or_more given answer a = refuses (first_failing tests) answer refl (told_refusal _ given answer a) (λ z e. omega (arith, told_given _ given answer a z, e))
 
 -- A settling that is not refused: what its answer tells is what the stepping says of the root
 same_phase : (a b : Bool) → cond a finished waiting ≡ cond b finished waiting → a ≡ b
@@ -218,13 +218,13 @@ demand_2 =
       begin_steps = λ t est r answer r' b z. rw b.record_is (beginning_steps t est r (sym b.answer_is ∙ z));
       offer_steps =
           λ t r time goals answer r' goals' o a fits.
-          let z = told-accepted _ _ answer o.answer_is (offer_below t r time (length goals)) a in
-          let name : answer - answered ≡ offered_name t r time = ap (λ (n : ℕ). n - answered) (told-given _ _ answer o.answer_is z) ∙ add-sub_cancel_left answered (offered_name t r time) in
+          let z = told_accepted _ _ answer o.answer_is (offer_below t r time (length goals)) a in
+          let name : answer - answered ≡ offered_name t r time = ap (λ (n : ℕ). n - answered) (told_given _ _ answer o.answer_is z) ∙ add-sub_cancel_left answered (offered_name t r time) in
           rw (o.record_is, o.goals_are, name) (offer_steps t r time goals z fits);
       settle_steps =
           λ t r est answer r' s a bytes.
-          let z = told-accepted _ _ answer s.answer_is (settle_below t r est) a in
-          rw s.record_is (settling_stepped t r est answer z bytes (told-given _ _ answer s.answer_is z));
+          let z = told_accepted _ _ answer s.answer_is (settle_below t r est) a in
+          rw s.record_is (settling_stepped t r est answer z bytes (told_given _ _ answer s.answer_is z));
       begin_only = beginning_only;
       offer_only = offer_only;
       settle_only = λ t r est a b x y h. settling_only t r est a b h x y;

@@ -11,7 +11,7 @@ use Rattle.meaning.specs.Program.{variables, clocks, program_tests, program_refu
 use Rattle.meaning.specs.Table.{compiled, compile_tests, file_in, is_table, decompile_tests}
 use Rattle.meaning.specs.Record.{record_allowed}
 use Rattle.meaning.specs.Cycle.{estimate_allowed, begin_tests, fresh_record, offer_tests, offered_goals, offered_name, offered_record, settle_tests, settled_marks, settled_record, root_ended}
-use Rattle.meaning.specs.Answers.{answered, notATable}
+use Rattle.meaning.specs.Answers.{answered, not_a_table}
 use Rattle.meaning.specs.Operations.{Compiled, Decompiled, Begun, Offered, Settled}
 use Rattle.agreement.specs.Runs.{Call, Timed, RunsAlike}
 use Rattle.agreement.specs.Calls.{table_in, OperationsAlike}
@@ -100,11 +100,11 @@ pub record Demand2 : Type 0 where
   -- reading, giving back and the table check are one another's inverses, and the further bytes of both buffers stay
   pub inverses : Inverses
   -- a table that no file gives is refused by 9, and only such, whichever operation it is given to
-  pub decompile_refuses : (t out : List ℕ) (answer : ℕ) (out' : List ℕ) → Decompiled t out answer out' → (answer ≡ notATable) ↔ NoFile t
-  pub begin_refuses : (t est r : List ℕ) (answer : ℕ) (r' : List ℕ) → Begun t est r answer r' → (answer ≡ notATable) ↔ NoFile t
+  pub decompile_refuses : (t out : List ℕ) (answer : ℕ) (out' : List ℕ) → Decompiled t out answer out' → (answer ≡ not_a_table) ↔ NoFile t
+  pub begin_refuses : (t est r : List ℕ) (answer : ℕ) (r' : List ℕ) → Begun t est r answer r' → (answer ≡ not_a_table) ↔ NoFile t
   pub offer_refuses : (t r : List ℕ) (time : ℕ) (goals : List ℕ) (answer : ℕ) (r' goals' : List ℕ) → Offered t r time goals answer r' goals'
-      → (answer ≡ notATable) ↔ NoFile t
-  pub settle_refuses : (t r est : List ℕ) (answer : ℕ) (r' : List ℕ) → Settled t r est answer r' → (answer ≡ notATable) ↔ NoFile t
+      → (answer ≡ not_a_table) ↔ NoFile t
+  pub settle_refuses : (t r est : List ℕ) (answer : ℕ) (r' : List ℕ) → Settled t r est answer r' → (answer ≡ not_a_table) ↔ NoFile t
   -- each beginning, offer and settling that is not refused is the stepping, where times have 32 bits and a record is made of bytes; an offer's
   -- answer is 256 and the name that the stepping gives
   pub begin_steps : (t est r : List ℕ) (answer : ℕ) (r' : List ℕ) → Begun t est r answer r' → answer ≡ 0 → BeginningSteps t est r r'

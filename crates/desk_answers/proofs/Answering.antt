@@ -12,62 +12,62 @@ use Rattle.meaning.specs.declared.OfferAnswer.{OfferAnswer}
 use Rattle.meaning.specs.declared.OfferAnswer.TheVariants.{Agreed, Contested, Refused as OfferRefused}
 use Rattle.meaning.specs.declared.SettleAnswer.{SettleAnswer}
 use Rattle.meaning.specs.declared.SettleAnswer.TheVariants.{Running, Finished, Refused as SettleRefused}
-use Rattle.meaning.specs.Answers.{refusalNumber, answerNumber, offerNumber, settleNumber, answered, noVariable}
-use Rattle.meaning.proofs.Answers.{refusal-counts}
+use Rattle.meaning.specs.Answers.{refusal_number, answer_number, offer_number, settle_number, answered, no_variable}
+use Rattle.meaning.proofs.Answers.{refusal_counts}
 use Rattle.desk_format.specs.Decimal.{decimal}
 use Rattle.desk_format.specs.Hexadecimal.{pairs}
 use Rattle.desk_format.specs.Words.{word, numbered}
 use Rattle.desk_format.proofs.Texts.{Three}
-use Rattle.desk_answers.specs.Answers.{refusedText, begunText, settledText, namedText, goalsText, offeredText, lineText}
+use Rattle.desk_answers.specs.Answers.{refused_text, begun_text, settled_text, named_text, goals_text, offered_text, line_text}
 
 -- A beginning's line
-pub begun_done_text : {a : Answer} → a ≡ Done → begunText (answerNumber a) ≡ word "begun\n"
-unfolding begunText
+pub begun_done_text : {a : Answer} → a ≡ Done → begun_text (answer_number a) ≡ word "begun\n"
+unfolding begun_text
 begun_done_text told = rw told
 
-pub begun_refused_text : {a : Answer} {r : Refusal} → a ≡ Refused r → begunText (answerNumber a) ≡ refusedText (refusalNumber r)
-unfolding begunText
-begun_refused_text {r = r} told = rw (told, ne_eqb (refusalNumber r) 0 (λ z. omega (arith, refusal-counts r)))
+pub begun_refused_text : {a : Answer} {r : Refusal} → a ≡ Refused r → begun_text (answer_number a) ≡ refused_text (refusal_number r)
+unfolding begun_text
+begun_refused_text {r = r} told = rw (told, ne_eqb (refusal_number r) 0 (λ z. omega (arith, refusal_counts r)))
 
 -- A settling's line
-pub settled_running_text : {a : SettleAnswer} → a ≡ Running → settledText (settleNumber a) ≡ word "running\n"
-unfolding settledText
+pub settled_running_text : {a : SettleAnswer} → a ≡ Running → settled_text (settle_number a) ≡ word "running\n"
+unfolding settled_text
 settled_running_text told = rw told
 
-pub settled_finished_text : {a : SettleAnswer} → a ≡ Finished → settledText (settleNumber a) ≡ word "finished\n"
-unfolding settledText
+pub settled_finished_text : {a : SettleAnswer} → a ≡ Finished → settled_text (settle_number a) ≡ word "finished\n"
+unfolding settled_text
 settled_finished_text told = rw told
 
-pub settled_refused_text : {a : SettleAnswer} {r : Refusal} → a ≡ SettleRefused r → settledText (settleNumber a) ≡ refusedText (refusalNumber r)
-unfolding settledText
-settled_refused_text {r = r} told = rw (told, lt-ltb (refusalNumber r) answered (refusal-counts r).1)
+pub settled_refused_text : {a : SettleAnswer} {r : Refusal} → a ≡ SettleRefused r → settled_text (settle_number a) ≡ refused_text (refusal_number r)
+unfolding settled_text
+settled_refused_text {r = r} told = rw (told, lt-ltb (refusal_number r) answered (refusal_counts r).1)
 
 -- An offer's line
-pub offered_refused : {a : OfferAnswer} {r : Refusal} (goals : List ℕ) → a ≡ OfferRefused r → offeredText (offerNumber a) goals ≡ refusedText (refusalNumber r)
-unfolding offeredText
-offered_refused {r = r} goals told = rw (told, lt-ltb (refusalNumber r) answered (refusal-counts r).1)
+pub offered_refused : {a : OfferAnswer} {r : Refusal} (goals : List ℕ) → a ≡ OfferRefused r → offered_text (offer_number a) goals ≡ refused_text (refusal_number r)
+unfolding offered_text
+offered_refused {r = r} goals told = rw (told, lt-ltb (refusal_number r) answered (refusal_counts r).1)
 
-pub offered_agreed : {a : OfferAnswer} (goals : List ℕ) → a ≡ Agreed → offeredText (offerNumber a) goals ≡ goalsText goals noVariable
-unfolding offeredText
+pub offered_agreed : {a : OfferAnswer} (goals : List ℕ) → a ≡ Agreed → offered_text (offer_number a) goals ≡ goals_text goals no_variable
+unfolding offered_text
 offered_agreed goals told = rw told
 
-pub offered_contested : {a : OfferAnswer} {v : ℕ} (goals : List ℕ) → a ≡ Contested v → offeredText (offerNumber a) goals ≡ goalsText goals v
-unfolding offeredText
+pub offered_contested : {a : OfferAnswer} {v : ℕ} (goals : List ℕ) → a ≡ Contested v → offered_text (offer_number a) goals ≡ goals_text goals v
+unfolding offered_text
 offered_contested {v = v} goals told = rw (told, le-ltb (answered + v) answered (omega arith), add-sub_cancel_left)
 
-pub named_none : {v : ℕ} → v ≡ noVariable → namedText v ≡ word " named none\n"
-unfolding namedText
-named_none {v} e = rw (eq-eqb v noVariable e)
+pub named_none : {v : ℕ} → v ≡ no_variable → named_text v ≡ word " named none\n"
+unfolding named_text
+named_none {v} e = rw (eq-eqb v no_variable e)
 
-pub named_one : {v : ℕ} → (v ≡ noVariable → ⊥) → namedText v ≡ numbered (word " named ") v
-unfolding namedText
-named_one {v} e = rw (ne_eqb v noVariable e)
+pub named_one : {v : ℕ} → (v ≡ no_variable → ⊥) → named_text v ≡ numbered (word " named ") v
+unfolding named_text
+named_one {v} e = rw (ne_eqb v no_variable e)
 
 -- The pieces of the lines that have several
-pub goals_pieces : (goals : List ℕ) (v : ℕ) → Three (goalsText goals v) (word "goals") (pairs goals) (namedText v)
-unfolding goalsText
+pub goals_pieces : (goals : List ℕ) (v : ℕ) → Three (goals_text goals v) (word "goals") (pairs goals) (named_text v)
+unfolding goals_text
 goals_pieces goals v = record { made = refl }
 
-pub line_pieces : (n : ℕ) → Three (lineText n) (word "line ") (decimal n) (word ": not a call\n")
-unfolding lineText
+pub line_pieces : (n : ℕ) → Three (line_text n) (word "line ") (decimal n) (word ": not a call\n")
+unfolding line_text
 line_pieces n = record { made = refl }

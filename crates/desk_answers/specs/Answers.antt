@@ -1,32 +1,32 @@
 -- The text of an answer, and of a line that is no call.
 use Rattle.std.specs.Prelude.{ℕ, ◌-◌, cond, List, ◌++◌, eqb, ltb}
-use Rattle.meaning.specs.Answers.{answered, noVariable}
+use Rattle.meaning.specs.Answers.{answered, no_variable}
 use Rattle.desk_format.specs.Decimal.{decimal}
 use Rattle.desk_format.specs.Hexadecimal.{pairs}
 use Rattle.desk_format.specs.Words.{word, numbered}
 
 -- "refused N"
-abbrev pub refusedText : ℕ → List ℕ
-refusedText n = numbered (word "refused ") n
+abbrev pub refused_text : ℕ → List ℕ
+refused_text n = numbered (word "refused ") n
 
 -- a beginning's answer, 0 or the refusal's number: "begun"
-unfoldable pub begunText : ℕ → List ℕ
-begunText n = cond (eqb n 0) (word "begun\n") (refusedText n)
+unfoldable pub begun_text : ℕ → List ℕ
+begun_text n = cond (eqb n 0) (word "begun\n") (refused_text n)
 
 -- a settling's answer: "running" or "finished"
-unfoldable pub settledText : ℕ → List ℕ
-settledText n = cond (ltb n answered) (refusedText n) (cond (eqb n answered) (word "running\n") (word "finished\n"))
+unfoldable pub settled_text : ℕ → List ℕ
+settled_text n = cond (ltb n answered) (refused_text n) (cond (eqb n answered) (word "running\n") (word "finished\n"))
 
 -- an offer's answer with the V goal bytes: "goals HEX named V", or "named none"
-unfoldable pub namedText : ℕ → List ℕ
-namedText v = cond (eqb v noVariable) (word " named none\n") (numbered (word " named ") v)
+unfoldable pub named_text : ℕ → List ℕ
+named_text v = cond (eqb v no_variable) (word " named none\n") (numbered (word " named ") v)
 
-unfoldable pub goalsText : List ℕ → ℕ → List ℕ
-goalsText goals v = word "goals" ++ (pairs goals ++ namedText v)
+unfoldable pub goals_text : List ℕ → ℕ → List ℕ
+goals_text goals v = word "goals" ++ (pairs goals ++ named_text v)
 
-unfoldable pub offeredText : ℕ → List ℕ → List ℕ
-offeredText n goals = cond (ltb n answered) (refusedText n) (goalsText goals (n - answered))
+unfoldable pub offered_text : ℕ → List ℕ → List ℕ
+offered_text n goals = cond (ltb n answered) (refused_text n) (goals_text goals (n - answered))
 
 -- "line N: not a call"
-unfoldable pub lineText : ℕ → List ℕ
-lineText n = word "line " ++ (decimal n ++ word ": not a call\n")
+unfoldable pub line_text : ℕ → List ℕ
+line_text n = word "line " ++ (decimal n ++ word ": not a call\n")

@@ -3,9 +3,9 @@
 #![tactic(auto)]
 ghost use Rattle.std.specs.Prelude.{◌+◌, ◌<◌, ◌^◌, length};
 ghost use Rattle.base.specs.Lists.{bytes_at};
-ghost use Rattle.meaning.specs.Answers.{refusalNumber, answerNumber, offerNumber, settleNumber};
+ghost use Rattle.meaning.specs.Answers.{refusal_number, answer_number, offer_number, settle_number};
 ghost use Rattle.desk_format.specs.Writing.{Written};
-ghost use Rattle.desk_answers.specs.Answers.{refusedText, begunText, settledText, namedText, goalsText, offeredText, lineText};
+ghost use Rattle.desk_answers.specs.Answers.{refused_text, begun_text, settled_text, named_text, goals_text, offered_text, line_text};
 
 use desk_format::decimal::write_number;
 use desk_format::hexadecimal::write_pairs;
@@ -15,16 +15,16 @@ use meaning::{Answer, OfferAnswer, Refusal, SettleAnswer, refusal_number};
 
 // The answer of a refused call.
 pub fn write_refused(r: Refusal, out: &mut [u8], i: usize) -> usize
-    requires { i + length (refusedText (refusalNumber r)) < 2 ^ 64 }
-    ensures { Written (refusedText (refusalNumber r)) out.old i out.new result }
+    requires { i + length (refused_text (refusal_number r)) < 2 ^ 64 }
+    ensures { Written (refused_text (refusal_number r)) out.old i out.new result }
 {
     write_numbered(b"refused ", refusal_number(r) as u64, out, i)
 }
 
 // The answer of a beginning.
 pub fn write_begun(a: Answer, out: &mut [u8], i: usize) -> usize
-    requires { i + length (begunText (answerNumber a)) < 2 ^ 64 }
-    ensures { Written (begunText (answerNumber a)) out.old i out.new result }
+    requires { i + length (begun_text (answer_number a)) < 2 ^ 64 }
+    ensures { Written (begun_text (answer_number a)) out.old i out.new result }
 {
     match a {
         Answer::Done => write_word(b"begun\n", out, i),
@@ -34,8 +34,8 @@ pub fn write_begun(a: Answer, out: &mut [u8], i: usize) -> usize
 
 // The answer of a settling.
 pub fn write_settled(a: SettleAnswer, out: &mut [u8], i: usize) -> usize
-    requires { i + length (settledText (settleNumber a)) < 2 ^ 64 }
-    ensures { Written (settledText (settleNumber a)) out.old i out.new result }
+    requires { i + length (settled_text (settle_number a)) < 2 ^ 64 }
+    ensures { Written (settled_text (settle_number a)) out.old i out.new result }
 {
     match a {
         SettleAnswer::Refused(r) => write_refused(r, out, i),
@@ -46,8 +46,8 @@ pub fn write_settled(a: SettleAnswer, out: &mut [u8], i: usize) -> usize
 
 // The contested variable that an offer names, to the end of the line.
 fn write_named(v: u8, out: &mut [u8], i: usize) -> usize
-    requires { i + length (namedText v) < 2 ^ 64 }
-    ensures { Written (namedText v) out.old i out.new result }
+    requires { i + length (named_text v) < 2 ^ 64 }
+    ensures { Written (named_text v) out.old i out.new result }
 {
     if v == NO_VARIABLE {
         write_word(b" named none\n", out, i)
@@ -58,8 +58,8 @@ fn write_named(v: u8, out: &mut [u8], i: usize) -> usize
 
 // The first v goal bytes, and the variable that is named.
 fn write_goals_text(goals: &[u8], v: u8, named: u8, out: &mut [u8], i: usize) -> usize
-    requires { i + length (goalsText (bytes_at goals.now 0 v) named) < 2 ^ 64 }
-    ensures { Written (goalsText (bytes_at goals.now 0 v) named) out.old i out.new result }
+    requires { i + length (goals_text (bytes_at goals.now 0 v) named) < 2 ^ 64 }
+    ensures { Written (goals_text (bytes_at goals.now 0 v) named) out.old i out.new result }
 {
     let j = write_word(b"goals", out, i);
     let k = write_pairs(goals, 0, v as usize, out, j);
@@ -68,8 +68,8 @@ fn write_goals_text(goals: &[u8], v: u8, named: u8, out: &mut [u8], i: usize) ->
 
 // The answer of an offer, with the first v goal bytes.
 pub fn write_offered(a: OfferAnswer, goals: &[u8], v: u8, out: &mut [u8], i: usize) -> usize
-    requires { i + length (offeredText (offerNumber a) (bytes_at goals.now 0 v)) < 2 ^ 64 }
-    ensures { Written (offeredText (offerNumber a) (bytes_at goals.now 0 v)) out.old i out.new result }
+    requires { i + length (offered_text (offer_number a) (bytes_at goals.now 0 v)) < 2 ^ 64 }
+    ensures { Written (offered_text (offer_number a) (bytes_at goals.now 0 v)) out.old i out.new result }
 {
     match a {
         OfferAnswer::Refused(r) => write_refused(r, out, i),
@@ -80,8 +80,8 @@ pub fn write_offered(a: OfferAnswer, goals: &[u8], v: u8, out: &mut [u8], i: usi
 
 // What is said of line n where it is no call.
 pub fn write_line_fault(n: u64, out: &mut [u8], i: usize) -> usize
-    requires { i + length (lineText n) < 2 ^ 64 }
-    ensures { Written (lineText n) out.old i out.new result }
+    requires { i + length (line_text n) < 2 ^ 64 }
+    ensures { Written (line_text n) out.old i out.new result }
 {
     let j = write_word(b"line ", out, i);
     let k = write_number(n, out, j);

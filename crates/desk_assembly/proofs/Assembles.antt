@@ -17,8 +17,8 @@ use Rattle.meaning.specs.declared.Answer.{Answer}
 use Rattle.meaning.specs.declared.Answer.TheVariants.{Done, Refused}
 use Rattle.meaning.specs.Sizes.{length_of}
 use Rattle.meaning.specs.Program.{parts, program_tests, program_refusal}
-use Rattle.meaning.specs.Answers.{refusalNumber, answerNumber}
-use Rattle.meaning.proofs.Answers.{not-refused, is-refused}
+use Rattle.meaning.specs.Answers.{refusal_number, answer_number}
+use Rattle.meaning.proofs.Answers.{not_refused, is_refused}
 use Rattle.text_grammar.specs.Syntax.{Text}
 use Rattle.text_grammar.specs.Trees.{text_file}
 use Rattle.text_grammar.specs.Texts.{Fits}
@@ -71,11 +71,11 @@ pub place_inside : (t : List ℕ) (place : ℕ) → place ≡ stop_place t → p
 place_inside t place h = rw h (stop_inside t)
 
 -- By each answer
-module _ (t file file' words : List ℕ) (a : Answer) (h : Assembled t file (answerNumber a) file') where
+module _ (t file file' words : List ℕ) (a : Answer) (h : Assembled t file (answer_number a) file') where
   pub assembled_done : (n p : ℕ) → a ≡ Done → p ≡ parts file' → n ≡ length_of File p → Assembling t file file' words words (record { answer = a; length = n })
   unfolding words_of
   assembled_done n p told p-is n-is =
-      let z : assemble_refusal t (length file) ≡ 0 = not-refused a (assemble_refusal t (length file)) h.answer_is told in
+      let z : assemble_refusal t (length file) ≡ 0 = not_refused a (assemble_refusal t (length file)) h.answer_is told in
       record {
         answer_is = h.answer_is;
         file_is = h.buffer_is;
@@ -83,24 +83,24 @@ module _ (t file file' words : List ℕ) (a : Answer) (h : Assembled t file (ans
         length_is = rw z (n-is ∙ ap (length_of File) (p-is ∙ ap parts h.buffer_is) ∙ length_told t file z);
       }
 
-  pub assembled_refused : (why : Refusal) (words' : List ℕ) (n place : ℕ) → a ≡ Refused why → place ≡ stop_place t → Written (refusal_text (refusalNumber why) t place) words 0 words' n
+  pub assembled_refused : (why : Refusal) (words' : List ℕ) (n place : ℕ) → a ≡ Refused why → place ≡ stop_place t → Written (refusal_text (refusal_number why) t place) words 0 words' n
       → Assembling t file file' words words' (record { answer = Refused why; length = n })
   unfolding words_of
   assembled_refused why words' n place told place_is w =
-      let number : refusalNumber why ≡ assemble_refusal t (length file) = ap answerNumber (sym told) ∙ h.answer_is in
-      let no : eqb (assemble_refusal t (length file)) 0 ≡ false = ne_eqb (assemble_refusal t (length file)) 0 (is-refused a why (assemble_refusal t (length file)) h.answer_is told) in
+      let number : refusal_number why ≡ assemble_refusal t (length file) = ap answer_number (sym told) ∙ h.answer_is in
+      let no : eqb (assemble_refusal t (length file)) 0 ≡ false = ne_eqb (assemble_refusal t (length file)) 0 (is_refused a why (assemble_refusal t (length file)) h.answer_is told) in
       record {
         answer_is = number;
         file_is = h.buffer_is;
         words_are = rw (no, ← number, ← place_is) w.bytes;
-        length_is = rw (no, ← number, ← place_is) (w.after ∙ zero-add (length (refusal_text (refusalNumber why) t place)));
+        length_is = rw (no, ← number, ← place_is) (w.after ∙ zero-add (length (refusal_text (refusal_number why) t place)));
       }
 
 -- An accepted text's file stands at the buffer's begin, and is the file that the text means
 module _ (t file file' words words' : List ℕ) (a : Assembly) (h : Assembling t file file' words words' a) where
   module _ (told : a.answer ≡ Done) where
     pub zero_is : assemble_refusal t (length file) ≡ 0
-    zero_is = not-refused a.answer (assemble_refusal t (length file)) h.answer_is told
+    zero_is = not_refused a.answer (assemble_refusal t (length file)) h.answer_is told
 
     size_is : a.length ≡ length (text_file (text t file zero_is))
     size_is = h.length_is ∙ rw (zero_is, file_of_lem t file zero_is)
@@ -122,6 +122,6 @@ module _ (t file file' words words' : List ℕ) (a : Assembly) (h : Assembling t
   unfolding words_of
   words_inside why told =
       let n = assemble_refusal t (length file) in
-      let no : eqb n 0 ≡ false = ne_eqb n 0 (is-refused a.answer why n h.answer_is told) in
+      let no : eqb n 0 ≡ false = ne_eqb n 0 (is_refused a.answer why n h.answer_is told) in
       let size : a.length ≡ length (refusal_text n t (stop_place t)) = h.length_is ∙ rw no in
       omega (arith, size, words_fit n t (stop_place t))

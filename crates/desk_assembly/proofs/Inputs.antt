@@ -17,7 +17,7 @@ use Rattle.meaning.specs.declared.Form.TheVariants.{File}
 use Rattle.meaning.specs.Sizes.{max_parts, max_depth, length_of}
 use Rattle.meaning.specs.Tree.{size, depth}
 use Rattle.meaning.specs.Program.{sizes_in_range, entry_allowed, preorder}
-use Rattle.meaning.specs.Answers.{sizeOutOfRange, operandNotAllowed, tooDeep, bufferTooShort, notAText}
+use Rattle.meaning.specs.Answers.{size_out_of_range, operand_not_allowed, too_deep, buffer_too_short, not_a_text}
 use Rattle.meaning.proofs.Files.{file_length}
 use Rattle.text_grammar.specs.Syntax.{Text}
 use Rattle.text_grammar.specs.Trees.{body_tree, text_file}
@@ -54,7 +54,7 @@ form_first (b ∷ bs) = ap (all (leb least_byte)) (take-take telling max_text_in
 
 -- the answers to a text in such a buffer: none but 0 and those that have words
 abbrev with_words : List ℕ
-with_words = 0 ∷ notAText ∷ sizeOutOfRange ∷ operandNotAllowed ∷ tooDeep ∷ []
+with_words = 0 ∷ not_a_text ∷ size_out_of_range ∷ operand_not_allowed ∷ too_deep ∷ []
 
 module _ (t : List ℕ) (room : ℕ) (enough : length_of File max_parts ≤ room) where
   roomy : (x : Text) → sizes_in_range (size (body_tree x.body)) x.variables x.clocks ≡ true → leb (length (text_file x)) room ≡ true
@@ -65,7 +65,7 @@ module _ (t : List ℕ) (room : ℕ) (enough : length_of File max_parts ≤ room
       le-leb (length (text_file x)) room (omega (arith, file_length x.variables x.clocks p, few))
 
   first : (a b c d : Bool) → (a ≡ true → d ≡ true)
-      → any (eqb (first_failing ((sizeOutOfRange, a) ∷ (operandNotAllowed, b) ∷ (tooDeep, c) ∷ (bufferTooShort, d) ∷ []))) with_words ≡ true
+      → any (eqb (first_failing ((size_out_of_range, a) ∷ (operand_not_allowed, b) ∷ (too_deep, c) ∷ (buffer_too_short, d) ∷ []))) with_words ≡ true
   first false b c d h = refl
   first true false c d h = refl
   first true true false d h = refl

@@ -1,7 +1,7 @@
 -- What assembling a text at the desk comes to: its program file, or the words that say why it is refused.
 use Rattle.std.specs.Prelude.{ℕ, ◌≡◌, cond, List, [], eqb, length}
 use Rattle.std.proofs.lemmas.List.Edits.{sets}
-use Rattle.meaning.specs.Answers.{answerNumber}
+use Rattle.meaning.specs.Answers.{answer_number}
 use Rattle.text_grammar.specs.Parser.{reading}
 use Rattle.text_grammar.specs.Assembling.{assemble_refusal, file_in, assembled_into}
 use Rattle.text_stops.specs.Places.{stop_place}
@@ -14,7 +14,7 @@ words_of n t = cond (eqb n 0) [] (refusal_text n t (stop_place t))
 
 -- A text t that was assembled into the buffer `file`, with the buffer `words`
 pub record Assembling (t file file' words words' : List ℕ) (a : Assembly) : Type 0 where
-  pub answer_is : answerNumber a.answer ≡ assemble_refusal t (length file)
+  pub answer_is : answer_number a.answer ≡ assemble_refusal t (length file)
   pub file_is : file' ≡ assembled_into t file
   pub words_are : words' ≡ sets words 0 (words_of (assemble_refusal t (length file)) t)
   pub length_is : a.length ≡ cond (eqb (assemble_refusal t (length file)) 0) (length (file_in (reading t))) (length (words_of (assemble_refusal t (length file)) t))

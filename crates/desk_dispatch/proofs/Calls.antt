@@ -12,18 +12,18 @@ use Rattle.meaning.specs.declared.OfferAnswer.{OfferAnswer}
 use Rattle.meaning.specs.declared.SettleAnswer.{SettleAnswer}
 use Rattle.meaning.specs.Program.{variables}
 use Rattle.meaning.specs.Cycle.{begun_into, offered_into, settled_into}
-use Rattle.meaning.specs.Answers.{answered, answerNumber, offerNumber, settleNumber}
+use Rattle.meaning.specs.Answers.{answered, answer_number, offer_number, settle_number}
 use Rattle.meaning.specs.Operations.{Begun, Offered, Settled}
 use Rattle.desk_format.specs.Writing.{Written}
-use Rattle.desk_answers.specs.Answers.{begunText, offeredText, settledText}
+use Rattle.desk_answers.specs.Answers.{begun_text, offered_text, settled_text}
 use Rattle.desk_dispatch.specs.declared.Turn.{Turn}
 use Rattle.desk_dispatch.specs.Counting.{more, begun_cycles, settled_cycles}
 use Rattle.desk_dispatch.specs.Making.{begin_report, offer_report, settle_report, Turned}
 use Rattle.desk_dispatch.proofs.Counted.{settled_count}
 
 -- a beginning
-module _ (t est r r' : List ℕ) (a : Answer) (made : Begun t est r (answerNumber a) r') where
-  pub begin_made : (out out' : List ℕ) (i n m : ℕ) → Written (begunText (answerNumber a)) out 0 out' i → m ≡ cond (eqb (answerNumber a) 0) 0 n
+module _ (t est r r' : List ℕ) (a : Answer) (made : Begun t est r (answer_number a) r') where
+  pub begin_made : (out out' : List ℕ) (i n m : ℕ) → Written (begun_text (answer_number a)) out 0 out' i → m ≡ cond (eqb (answer_number a) 0) 0 n
       → Turned (begin_report t est r) (begun_cycles t est r n) false out out' (record { length = i; cycles = m; ends = false })
   unfolding begun_cycles
   begin_made out out' i n m w count = record { written = rw made.answer_is at w; cycles_are = count ∙ rw made.answer_is; ends_is = refl }
@@ -32,18 +32,18 @@ module _ (t est r r' : List ℕ) (a : Answer) (made : Begun t est r (answerNumbe
   begin_left = made.record_is
 
 -- a settling
-module _ (t r est r' : List ℕ) (a : SettleAnswer) (made : Settled t r est (settleNumber a) r') where
-  pub settle_made : (out out' : List ℕ) (i n m : ℕ) → Written (settledText (settleNumber a)) out 0 out' i → m ≡ cond (leb answered (settleNumber a)) (more n) n
+module _ (t r est r' : List ℕ) (a : SettleAnswer) (made : Settled t r est (settle_number a) r') where
+  pub settle_made : (out out' : List ℕ) (i n m : ℕ) → Written (settled_text (settle_number a)) out 0 out' i → m ≡ cond (leb answered (settle_number a)) (more n) n
       → Turned (settle_report t r est) (settled_cycles t r est n) false out out' (record { length = i; cycles = m; ends = false })
   settle_made out out' i n m w count =
-      record { written = rw made.answer_is at w; cycles_are = settled_count t r est (settleNumber a) n m made.answer_is count; ends_is = refl }
+      record { written = rw made.answer_is at w; cycles_are = settled_count t r est (settle_number a) n m made.answer_is count; ends_is = refl }
 
   pub settle_left : r' ≡ settled_into t r est
   settle_left = made.record_is
 
 -- an offer
-module _ (t r : List ℕ) (time : ℕ) (goals r' goals' : List ℕ) (a : OfferAnswer) (made : Offered t r time goals (offerNumber a) r' goals') where
-  pub offer_made_lem : (out out' : List ℕ) (i n v : ℕ) → v ≡ variables t → Written (offeredText (offerNumber a) (bytes_at goals' 0 v)) out 0 out' i
+module _ (t r : List ℕ) (time : ℕ) (goals r' goals' : List ℕ) (a : OfferAnswer) (made : Offered t r time goals (offer_number a) r' goals') where
+  pub offer_made_lem : (out out' : List ℕ) (i n v : ℕ) → v ≡ variables t → Written (offered_text (offer_number a) (bytes_at goals' 0 v)) out 0 out' i
       → Turned (offer_report t r time goals) n false out out' (record { length = i; cycles = n; ends = false })
   offer_made_lem out out' i n v v-is w = record { written = rw (v-is, made.answer_is, made.goals_are) at w; cycles_are = refl; ends_is = refl }
 

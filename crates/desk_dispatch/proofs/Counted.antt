@@ -12,9 +12,9 @@ use Rattle.meaning.specs.declared.Answer.{Answer}
 use Rattle.meaning.specs.declared.Answer.TheVariants.{Done, Refused}
 use Rattle.meaning.specs.declared.SettleAnswer.{SettleAnswer}
 use Rattle.meaning.specs.declared.SettleAnswer.TheVariants.{Running, Finished, Refused as SettleRefused}
-use Rattle.meaning.specs.Answers.{answered, refusalNumber, answerNumber, settleNumber}
+use Rattle.meaning.specs.Answers.{answered, refusal_number, answer_number, settle_number}
 use Rattle.meaning.specs.Cycle.{root_ended, settled_marks, settle_refusal, settle_answer}
-use Rattle.meaning.proofs.Answers.{refusal-counts}
+use Rattle.meaning.proofs.Answers.{refusal_counts}
 use Rattle.agreement.proofs.Operations.{settle_below}
 use Rattle.desk_dispatch.specs.Counting.{max_count, more, settled_cycles}
 
@@ -28,21 +28,21 @@ more_none n h = rw (le-ltb n max_count h)
 
 -- after a beginning
 module _ (a : Answer) (n : ℕ) where
-  pub begun_done : a ≡ Done → 0 ≡ cond (eqb (answerNumber a) 0) 0 n
+  pub begun_done : a ≡ Done → 0 ≡ cond (eqb (answer_number a) 0) 0 n
   begun_done e = rw e
 
-  pub begun_refused : (r : Refusal) → a ≡ Refused r → n ≡ cond (eqb (answerNumber a) 0) 0 n
-  begun_refused r e = rw (e, ne_eqb (refusalNumber r) 0 (λ z. omega (arith, refusal-counts r)))
+  pub begun_refused : (r : Refusal) → a ≡ Refused r → n ≡ cond (eqb (answer_number a) 0) 0 n
+  begun_refused r e = rw (e, ne_eqb (refusal_number r) 0 (λ z. omega (arith, refusal_counts r)))
 
 -- after a settling
 module _ (a : SettleAnswer) (n : ℕ) where
-  pub settle_refused_count : (r : Refusal) → a ≡ SettleRefused r → n ≡ cond (leb answered (settleNumber a)) (more n) n
-  settle_refused_count r e = rw (e, lt-leb answered (refusalNumber r) (omega (arith, refusal-counts r)))
+  pub settle_refused_count : (r : Refusal) → a ≡ SettleRefused r → n ≡ cond (leb answered (settle_number a)) (more n) n
+  settle_refused_count r e = rw (e, lt-leb answered (refusal_number r) (omega (arith, refusal_counts r)))
 
-  pub settle_running_lem : (m : ℕ) → a ≡ Running → m ≡ more n → m ≡ cond (leb answered (settleNumber a)) (more n) n
+  pub settle_running_lem : (m : ℕ) → a ≡ Running → m ≡ more n → m ≡ cond (leb answered (settle_number a)) (more n) n
   settle_running_lem m e h = rw e h
 
-  pub settle_finished : (m : ℕ) → a ≡ Finished → m ≡ more n → m ≡ cond (leb answered (settleNumber a)) (more n) n
+  pub settle_finished : (m : ℕ) → a ≡ Finished → m ≡ more n → m ≡ cond (leb answered (settle_number a)) (more n) n
   settle_finished m e h = rw e h
 
 -- an answer of 256 or more is that of a settling that is not refused

@@ -8,7 +8,7 @@ use Rattle.meaning.specs.Program.{variables}
 use Rattle.meaning.specs.Cycle.{begun_into, offered_into, settled_into}
 use Rattle.desk_calls.specs.declared.Line.{Line}
 use Rattle.desk_calls.specs.declared.Line.TheVariants.{Passed, Begin, Offer, OfferInto, Settle, NotACall}
-use Rattle.desk_answers.specs.Answers.{lineText}
+use Rattle.desk_answers.specs.Answers.{line_text}
 use Rattle.desk_dispatch.specs.declared.Turn.{Turn}
 use Rattle.desk_dispatch.specs.Counting.{begun_cycles, settled_cycles}
 use Rattle.desk_dispatch.specs.Making.{max_goals, begin_report, offer_report, settle_report, line_report, record_at, cycles_at, ends_run, Turned}
@@ -21,7 +21,7 @@ module _ (t r est : List ℕ) (number n : ℕ) (x : Line) where
   make_passed out e = rw e (record { written = record { bytes = refl; after = refl }; cycles_are = refl; ends_is = refl })
 
   module _ (out out' : List ℕ) (y : Turn) where
-    pub make_no_call : x ≡ NotACall → Turned (lineText number) n true out out' y → Done out out' y
+    pub make_no_call : x ≡ NotACall → Turned (line_text number) n true out out' y → Done out out' y
     make_no_call e z = rw e z
 
     pub make_begin : (k : ℕ) → x ≡ Begin k → Turned (begin_report t est r) (begun_cycles t est r n) false out out' y → Done out out' y

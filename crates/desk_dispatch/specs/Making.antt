@@ -6,7 +6,7 @@ use Rattle.meaning.specs.Cycle.{begin_refusal, begun_into, offer_answer, offered
 use Rattle.desk_format.specs.Writing.{Written}
 use Rattle.desk_calls.specs.declared.Line.{Line}
 use Rattle.desk_calls.specs.declared.Line.TheVariants.{Passed, Begin, Offer, OfferInto, Settle, NotACall}
-use Rattle.desk_answers.specs.Answers.{begunText, offeredText, settledText, lineText}
+use Rattle.desk_answers.specs.Answers.{begun_text, offered_text, settled_text, line_text}
 use Rattle.desk_dispatch.specs.declared.Turn.{Turn}
 use Rattle.desk_dispatch.specs.Counting.{begun_cycles, settled_cycles}
 
@@ -16,13 +16,13 @@ max_goals = 256
 
 -- What is written for a call: the text of its answer
 abbrev pub begin_report : List ℕ → List ℕ → List ℕ → List ℕ
-begin_report t est r = begunText (begin_refusal t est (length r))
+begin_report t est r = begun_text (begin_refusal t est (length r))
 
 abbrev pub offer_report : List ℕ → List ℕ → ℕ → List ℕ → List ℕ
-offer_report t r time goals = offeredText (offer_answer t r time (length goals)) (bytes_at (goals_into t r time goals) 0 (variables t))
+offer_report t r time goals = offered_text (offer_answer t r time (length goals)) (bytes_at (goals_into t r time goals) 0 (variables t))
 
 abbrev pub settle_report : List ℕ → List ℕ → List ℕ → List ℕ
-settle_report t r est = settledText (settle_answer t r est)
+settle_report t r est = settled_text (settle_answer t r est)
 
 -- the text of line number n. A line that is passed over has none, and one that is no call has the words that say so
 abbrev pub line_report : List ℕ → List ℕ → ℕ → Line → List ℕ → List ℕ
@@ -31,7 +31,7 @@ line_report t r n (Begin k) est = begin_report t est r
 line_report t r n (Offer time) est = offer_report t r time (replicate (variables t) 0)
 line_report t r n (OfferInto time room) est = offer_report t r time (replicate (min room max_goals) 0)
 line_report t r n (Settle k) est = settle_report t r est
-line_report t r n NotACall est = lineText n
+line_report t r n NotACall est = line_text n
 
 -- the record after it
 abbrev pub record_at : List ℕ → List ℕ → Line → List ℕ → List ℕ

@@ -1,6 +1,6 @@
 // The count of cycles.
 ghost use Rattle.std.specs.Prelude.{◌≡◌, cond, eqb, leb};
-ghost use Rattle.meaning.specs.Answers.{answered, answerNumber, settleNumber};
+ghost use Rattle.meaning.specs.Answers.{answered, answer_number, settle_number};
 ghost use Rattle.desk_dispatch.specs.Counting.{more};
 
 use meaning::{Answer, SettleAnswer};
@@ -14,7 +14,7 @@ pub fn one_more(n: u64) -> u64
 
 // The count after a beginning with this answer: 0 where it is accepted.
 pub(crate) fn after_begin(a: Answer, cycles: u64) -> u64
-    ensures { result ≡ cond (eqb (answerNumber a) 0) 0 cycles }
+    ensures { result ≡ cond (eqb (answer_number a) 0) 0 cycles }
 {
     match a {
         Answer::Done => 0,
@@ -24,7 +24,7 @@ pub(crate) fn after_begin(a: Answer, cycles: u64) -> u64
 
 // The count after a settling with this answer: one more where it is not refused.
 pub(crate) fn after_settle(a: SettleAnswer, cycles: u64) -> u64
-    ensures { result ≡ cond (leb answered (settleNumber a)) (more cycles) cycles }
+    ensures { result ≡ cond (leb answered (settle_number a)) (more cycles) cycles }
 {
     match a {
         SettleAnswer::Refused(_) => cycles,

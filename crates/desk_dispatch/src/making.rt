@@ -1,7 +1,7 @@
 // The calls: each is made by its operation, and its answer is written at the beginning of `out`.
 ghost use Rattle.std.specs.Prelude.{◌≡◌, true, false, ◌≤◌, min, length, replicate};
 ghost use Rattle.meaning.specs.Cycle.{begun_into, offered_into, settled_into};
-ghost use Rattle.desk_answers.specs.Answers.{lineText};
+ghost use Rattle.desk_answers.specs.Answers.{line_text};
 ghost use Rattle.desk_dispatch.specs.Counting.{begun_cycles, settled_cycles};
 ghost use Rattle.desk_dispatch.specs.Making.{max_goals, begin_report, offer_report, settle_report, line_report, record_at, cycles_at, ends_run, Turned};
 
@@ -83,7 +83,7 @@ fn settle_call(t: &[u8], r: &mut [u8], est: &[u8], cycles: u64, out: &mut [u8]) 
 
 // Writes that the line with this number is no call, which ends the run.
 fn no_call(number: u64, cycles: u64, out: &mut [u8]) -> Turn
-    ensures { Turned (lineText number) cycles true out.old out.new result }
+    ensures { Turned (line_text number) cycles true out.old out.new result }
 {
     let n = write_line_fault(number, out, 0);
     Turn {

@@ -13,12 +13,12 @@ use Rattle.meaning.specs.declared.Form.TheVariants.{File, Table}
 use Rattle.meaning.specs.declared.Refusal.{Refusal}
 use Rattle.meaning.specs.declared.Answer.{Answer}
 use Rattle.meaning.specs.declared.Answer.TheVariants.{Done, Refused}
-use Rattle.meaning.specs.Answers.{refusalNumber, answerNumber}
+use Rattle.meaning.specs.Answers.{refusal_number, answer_number}
 use Rattle.meaning.specs.Sizes.{max_parts, length_of}
 use Rattle.meaning.specs.Tree.{Part}
 use Rattle.meaning.specs.Program.{parts, variables, clocks, program_refusal}
 use Rattle.meaning.specs.Table.{compiled, compile_refusal, compiled_into}
-use Rattle.meaning.proofs.Answers.{refusal-counts}
+use Rattle.meaning.proofs.Answers.{refusal_counts}
 use Rattle.meaning.proofs.Files.{Holds, accepted}
 use Rattle.meaning.proofs.Tables.{compiled_is, table_holds}
 use Rattle.desk_format.specs.Writing.{Written, texts_from}
@@ -26,7 +26,7 @@ use Rattle.desk_listing.specs.Listing.{line, size_numbers, row_lines, table_text
 use Rattle.desk_listing.proofs.Lined.{line_fits, rows_fit}
 
 -- the line of a refusal
-pub refusal_written : (r : Refusal) (n : ℕ) (l m : List ℕ) (i j : ℕ) → n ≡ refusalNumber r → Written (line (n ∷ [])) l i m j → Written (line (refusalNumber r ∷ [])) l i m j
+pub refusal_written : (r : Refusal) (n : ℕ) (l m : List ℕ) (i j : ℕ) → n ≡ refusal_number r → Written (line (n ∷ [])) l i m j → Written (line (refusal_number r ∷ [])) l i m j
 refusal_written r n l m i j e w = rw e at w
 
 -- A table in a longer buffer of zeros reads as the table does: beyond its end there are zeros either way
@@ -111,13 +111,13 @@ listing_fits f = go (eqb (program_refusal File f) 0) refl
     go false e = omega (arith, line_fits (program_refusal File f ∷ []))
 
 -- The table that is read reads like the file's, and stands in the buffer with all its rows
-module _ (f : List ℕ) (n : ℕ) (room : length_of Table max_parts ≤ n) (a : Answer) (a-is : answerNumber a ≡ compile_refusal f (length (zeros n))) where
-  refusal_is : answerNumber a ≡ program_refusal File f
+module _ (f : List ℕ) (n : ℕ) (room : length_of Table max_parts ≤ n) (a : Answer) (a-is : answer_number a ≡ compile_refusal f (length (zeros n))) where
+  refusal_is : answer_number a ≡ program_refusal File f
   refusal_is = a-is ∙ room_enough f (length (zeros n)) (rw length-replicate room)
 
   module _ (t : List ℕ) (t-is : t ≡ compiled_into f (zeros n)) (d : a ≡ Done) where
     accepts : program_refusal File f ≡ 0
-    accepts = sym refusal_is ∙ ap answerNumber d
+    accepts = sym refusal_is ∙ ap answer_number d
 
     alike : (i : ℕ) → get_or t i 0 ≡ get_or (compiled File f) i 0
     unfolding compiled_into
@@ -138,12 +138,12 @@ module _ (f out m : List ℕ) (r : ℕ) where
       let n : r ≡ length (listing f) = w.after ∙ rw (zero-add, e) in
       (n, (rw e at w.bytes, omega (arith, listing_fits f)))
 
-  module _ (n : ℕ) (room : length_of Table max_parts ≤ n) (a : Answer) (a-is : answerNumber a ≡ compile_refusal f (length (zeros n))) where
+  module _ (n : ℕ) (room : length_of Table max_parts ≤ n) (a : Answer) (a-is : answer_number a ≡ compile_refusal f (length (zeros n))) where
     pub list_done : (t : List ℕ) → t ≡ compiled_into f (zeros n) → a ≡ Done → Written (table_text t) out 0 m r → Listed
     list_done t t-is d w =
         listed (table_text t) (text_alike t (compiled File f) (alike f n room a a-is t t-is d) ∙ sym (listing_table f (accepts f n room a a-is t t-is d))) w
 
-    pub list_refused : (x : Refusal) → a ≡ Refused x → Written (line (refusalNumber x ∷ [])) out 0 m r → Listed
+    pub list_refused : (x : Refusal) → a ≡ Refused x → Written (line (refusal_number x ∷ [])) out 0 m r → Listed
     list_refused x d w =
-        let z : refusalNumber x ≡ program_refusal File f = ap answerNumber (sym d) ∙ refusal_is f n room a a-is in
-        listed (line (refusalNumber x ∷ [])) (rw z (sym (listing_refused f (λ e. omega (arith, refusal-counts x))))) w
+        let z : refusal_number x ≡ program_refusal File f = ap answer_number (sym d) ∙ refusal_is f n room a a-is in
+        listed (line (refusal_number x ∷ [])) (rw z (sym (listing_refused f (λ e. omega (arith, refusal_counts x))))) w

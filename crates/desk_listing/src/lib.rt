@@ -5,7 +5,7 @@ pub mod rows;
 
 ghost use Rattle.std.specs.Prelude.{◌≡◌, [], ◌∷◌, ◌≤◌, length};
 ghost use Rattle.std.proofs.lemmas.List.Edits.{sets};
-ghost use Rattle.meaning.specs.Answers.{refusalNumber};
+ghost use Rattle.meaning.specs.Answers.{refusal_number};
 ghost use Rattle.desk_format.specs.Writing.{Written};
 ghost use Rattle.desk_listing.specs.Listing.{line, listing, max_listing};
 
@@ -34,7 +34,7 @@ pub fn list(file: &[u8], out: &mut [u8]) -> usize
 
 // Writes the line of a refusal: its number alone.
 fn write_refusal(r: Refusal, out: &mut [u8]) -> usize
-    ensures { Written (line (refusalNumber r ∷ [])) out.old 0 out.new result }
+    ensures { Written (line (refusal_number r ∷ [])) out.old 0 out.new result }
 {
     let numbers = [refusal_number(r) as u64];
     write_line(&numbers, out, 0)

@@ -17,7 +17,7 @@ use Rattle.desk_format.proofs.Texts.{written_append}
 use Rattle.desk_calls.specs.declared.Line.{Line}
 use Rattle.desk_calls.specs.declared.Line.TheVariants.{Passed, Begin, Offer, OfferInto, Settle, NotACall}
 use Rattle.desk_calls.specs.Lines.{bytes_of}
-use Rattle.desk_answers.specs.Answers.{lineText}
+use Rattle.desk_answers.specs.Answers.{line_text}
 use Rattle.desk_transcript.specs.Transcript.{parts_text, max_answer}
 use Rattle.desk_transcript.proofs.Lengths.{line_text_fits, begun_text_fits, settled_text_fits, offered_text_fits}
 use Rattle.desk_dispatch.specs.declared.Turn.{Turn}
@@ -61,7 +61,7 @@ module _ (t r r' : List ℕ) (n : ℕ) (few : parts t < number_limit) (narrow : 
   report_fits (OfferInto time room) est asked = offer_fits time (replicate (min room max_goals) 0) asked
   report_fits (Settle k) est asked =
       call_fits asked (settle_report t r est) (settled_text_fits t r' (settle_answer t r est) few)
-  report_fits NotACall est asked = none_fits asked (lineText n) (line_text_fits n)
+  report_fits NotACall est asked = none_fits asked (line_text n) (line_text_fits n)
 
 -- After a line is read: x is the line, its estimate stands at the beginning of `bytes`, and a text has been written for it
 module _ (t r line bytes : List ℕ) (cycles number k : ℕ) (x : Line) (asked b : Bool) (r' out mid : List ℕ) (turn : Turn) (h : LineParsed line bytes x) (k-is : k ≡ estimate_length x) (b-is : b ≡ is_call x)

@@ -25,7 +25,7 @@ use Rattle.desk_calls.specs.declared.Line.{Line}
 use Rattle.desk_calls.specs.declared.Line.TheVariants.{Passed, Begin, Offer, OfferInto, Settle, NotACall}
 use Rattle.desk_calls.specs.Lines.{line_of, bytes_of}
 use Rattle.desk_calls.proofs.Times.{TimeShort, line_short}
-use Rattle.desk_answers.specs.Answers.{refusedText, settledText, goalsText, offeredText}
+use Rattle.desk_answers.specs.Answers.{refused_text, settled_text, goals_text, offered_text}
 use Rattle.desk_dispatch.specs.Counting.{more}
 use Rattle.desk_dispatch.specs.Making.{max_goals, offer_report, settle_report, line_report, record_at, cycles_at, ends_run}
 use Rattle.desk_rehearsal.specs.Rehearsal.{max_line, parsed_line, answer_text}
@@ -33,23 +33,23 @@ use Rattle.desk_rehearsal.specs.Log.{calls_in, is_begin, all_calls, record_throu
 use Rattle.desk_rehearsal.proofs.Finishing.{line_calls}
 
 -- The text of an answer is that of the table's reply
-offer_text : (n name : ℕ) (gs : List ℕ) → leb answered n ≡ false → offeredText (answering n name) gs ≡ reply_text (reply n (goals gs name))
-unfolding offeredText
+offer_text : (n name : ℕ) (gs : List ℕ) → leb answered n ≡ false → offered_text (answering n name) gs ≡ reply_text (reply n (goals gs name))
+unfolding offered_text
 offer_text n name gs l = go (eqb n 0)
   where
-    go : (b : Bool) → cond (ltb (cond b (answered + name) n) answered) (refusedText (cond b (answered + name) n)) (goalsText gs (cond b (answered + name) n - answered)) ≡ reply_text (cond b (goals gs name) (refused n))
+    go : (b : Bool) → cond (ltb (cond b (answered + name) n) answered) (refused_text (cond b (answered + name) n)) (goals_text gs (cond b (answered + name) n - answered)) ≡ reply_text (cond b (goals gs name) (refused n))
     go true = rw (le-ltb (answered + name) answered (omega arith), add-sub_cancel_left)
     go false = rw (lt-ltb n answered (leb-false answered n l))
 
-settle_text : (n phase : ℕ) (ends : Bool) → (n ≡ 0 → phase ≡ cond ends finished waiting) → leb answered n ≡ false → settledText (answering n (flag ends)) ≡ reply_text (reply n (settled_reply phase))
-unfolding settledText
+settle_text : (n phase : ℕ) (ends : Bool) → (n ≡ 0 → phase ≡ cond ends finished waiting) → leb answered n ≡ false → settled_text (answering n (flag ends)) ≡ reply_text (reply n (settled_reply phase))
+unfolding settled_text
 settle_text n phase ends after l = go (eqb n 0) refl
   where
-    on : (b : Bool) → settledText (answered + flag b) ≡ reply_text (settled_reply (cond b finished waiting))
+    on : (b : Bool) → settled_text (answered + flag b) ≡ reply_text (settled_reply (cond b finished waiting))
     on true = refl
     on false = refl
 
-    go : (b : Bool) → eqb n 0 ≡ b → settledText (cond b (answered + flag ends) n) ≡ reply_text (cond b (settled_reply phase) (refused n))
+    go : (b : Bool) → eqb n 0 ≡ b → settled_text (cond b (answered + flag ends) n) ≡ reply_text (cond b (settled_reply phase) (refused n))
     go true e = rw (after (eqb-true n 0 e)) (on ends)
     go false e = rw (lt-ltb n answered (leb-false answered n l))
 

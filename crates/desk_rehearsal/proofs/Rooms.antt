@@ -6,11 +6,11 @@ use lib.ListN.{length}
 use Rattle.meaning.specs.Sizes.{byte_values}
 use Rattle.meaning.specs.Program.{variables, clocks}
 use Rattle.desk_format.specs.Writing.{Written}
-use Rattle.desk_answers.specs.Answers.{refusedText}
+use Rattle.desk_answers.specs.Answers.{refused_text}
 use Rattle.desk_transcript.specs.Transcript.{summary_text, max_summary}
 use Rattle.desk_transcript.proofs.Lengths.{refused_fits, summary_fits}
 
-pub refused_room : (n : ℕ) → 0 + length (refusedText n) < 2 ^ 64
+pub refused_room : (n : ℕ) → 0 + length (refused_text n) < 2 ^ 64
 refused_room n = omega (arith, refused_fits [] [] n (omega arith))
 
 -- the summary, for a table whose sizes are bytes

@@ -8,7 +8,7 @@ use Rattle.desk_format.specs.Words.{word, numbered}
 use Rattle.desk_calls.specs.declared.Line.{Line}
 use Rattle.desk_calls.specs.declared.Line.TheVariants.{Passed, Begin, Offer, OfferInto, Settle, NotACall}
 use Rattle.desk_calls.specs.Lines.{bytes_of}
-use Rattle.desk_answers.specs.Answers.{refusedText, goalsText}
+use Rattle.desk_answers.specs.Answers.{refused_text, goals_text}
 use Rattle.desk_dispatch.specs.Counting.{more}
 use Rattle.desk_dispatch.specs.Making.{max_goals, record_at, cycles_at, ends_run}
 use Rattle.desk_rehearsal.specs.Rehearsal.{parsed_line, answer_text}
@@ -63,8 +63,8 @@ within_run lines = all (λ line. not (is_begin (parsed_line line) || ends_run (p
 
 -- the text of a reply of either run of demand 3
 abbrev pub reply_text : Reply → List ℕ
-reply_text (refused n) = refusedText n
-reply_text (goals bytes name) = goalsText bytes name
+reply_text (refused n) = refused_text n
+reply_text (goals bytes name) = goals_text bytes name
 reply_text running = word "running\n"
 reply_text done = word "finished\n"
 

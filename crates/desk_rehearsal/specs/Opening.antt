@@ -5,12 +5,12 @@ use Rattle.meaning.specs.declared.Form.TheVariants.{Table}
 use Rattle.meaning.specs.Sizes.{length_of}
 use Rattle.meaning.specs.Program.{parts}
 use Rattle.meaning.specs.Table.{compile_refusal, compiled_into}
-use Rattle.desk_answers.specs.Answers.{refusedText}
+use Rattle.desk_answers.specs.Answers.{refused_text}
 use Rattle.desk_rehearsal.specs.declared.Opened.{Opened}
 
 -- by compiling's answer, 0 or the refusal's number
 unfoldable pub opened_text : ℕ → List ℕ
-opened_text n = cond (eqb n 0) [] (refusedText n)
+opened_text n = cond (eqb n 0) [] (refused_text n)
 
 -- A file f that was compiled into the buffer `table`, with the buffer `out` for text
 pub record Opening (f table table' out out' : List ℕ) (o : Opened) : Type 0 where

@@ -10,7 +10,7 @@ use types.Run.{OneOf, miss}
 use borrow.Author.Tests.{lt-ltb, le-ltb}
 use Rattle.meaning.specs.declared.Refusal.{Refusal}
 use Rattle.meaning.specs.declared.Refusal.TheVariants.{FileTooShort, SizeOutOfRange, WrongLength, UnknownKind, OperandNotAllowed, NotOneTree, TooDeep, BufferTooShort, NotATable, RecordNotAllowed, WrongPhase, TimeBeforeLast, EstimateNotAllowed, RunFinished, NothingAtWork, NotAText}
-use Rattle.meaning.specs.Answers.{refusalNumber, sizeOutOfRange, operandNotAllowed, tooDeep, notAText}
+use Rattle.meaning.specs.Answers.{refusal_number, size_out_of_range, operand_not_allowed, too_deep, not_a_text}
 use Rattle.meaning.specs.contracts.Refusal.{the_type}
 use Rattle.text_grammar.specs.Texts.{max_text_length}
 use Rattle.desk_format.specs.Decimal.{decimal}
@@ -18,10 +18,10 @@ use Rattle.desk_format.specs.Words.{word}
 use Rattle.desk_format.specs.Writing.{Written}
 use Rattle.desk_format.proofs.Digits.{decimal_few}
 use Rattle.desk_format.proofs.Texts.{Three, three_length, three_written, same_text}
-use Rattle.desk_answers.specs.Answers.{refusedText}
+use Rattle.desk_answers.specs.Answers.{refused_text}
 use Rattle.desk_answers.proofs.Lengths.{either_fits, refused_short}
 use Rattle.desk_texts.specs.Places.{line_of, column_of}
-use Rattle.desk_texts.specs.Words.{column_text, outside_text, not_aText_text, refusal_text, max_words}
+use Rattle.desk_texts.specs.Words.{column_text, outside_text, not_a_text_text, refusal_text, max_words}
 
 -- The pieces of the lines that have several
 pub column_pieces : (column : ℕ) → Three (column_text column) (word ", column ") (decimal column) (word " on\n")
@@ -52,44 +52,44 @@ module _ {l m : List ℕ} {i : ℕ} (first : Written from_line l 0 m i) where
     outside_written column t place line_is column-is third = three_written (outside_pieces t place) first (rw line_is at second) (rw column-is at third)
 
 -- A text that is too long, and one that does not fit
-pub too_long_lem : (t : List ℕ) (place : ℕ) → max_text_length < length t → not_aText_text t place ≡ word "refused 16: the text has more than 16384 bytes\n"
-unfolding not_aText_text
+pub too_long_lem : (t : List ℕ) (place : ℕ) → max_text_length < length t → not_a_text_text t place ≡ word "refused 16: the text has more than 16384 bytes\n"
+unfolding not_a_text_text
 too_long_lem t place h = rw (lt-ltb max_text_length (length t) h)
 
-pub not_fitting : (t : List ℕ) (place : ℕ) → length t ≤ max_text_length → not_aText_text t place ≡ outside_text t place
-unfolding not_aText_text
+pub not_fitting : (t : List ℕ) (place : ℕ) → length t ≤ max_text_length → not_a_text_text t place ≡ outside_text t place
+unfolding not_a_text_text
 not_fitting t place h = rw (le-ltb max_text_length (length t) h)
 
 -- Each line fits its buffer
 outside_fits : (t : List ℕ) (place : ℕ) → length (outside_text t place) ≤ max_words
 outside_fits t place = omega (arith, three_length (outside_pieces t place), decimal_few (line_of t place), column_fits (column_of t place))
 
-not_a_text_fits : (t : List ℕ) (place : ℕ) → length (not_aText_text t place) ≤ max_words
-unfolding not_aText_text
+not_a_text_fits : (t : List ℕ) (place : ℕ) → length (not_a_text_text t place) ≤ max_words
+unfolding not_a_text_text
 not_a_text_fits t place = either_fits (ltb max_text_length (length t)) _ _ max_words (omega arith) (outside_fits t place)
 
 pub words_fit : (n : ℕ) (t : List ℕ) (place : ℕ) → length (refusal_text n t place) ≤ max_words
 unfolding refusal_text
 words_fit n t place =
-    either_fits (eqb n sizeOutOfRange) _ _ max_words (omega arith)
-    (either_fits (eqb n operandNotAllowed) _ _ max_words (omega arith)
-    (either_fits (eqb n tooDeep) _ _ max_words (omega arith)
-    (either_fits (eqb n notAText) _ _ max_words (not_a_text_fits t place) (omega (arith, refused_short n)))))
+    either_fits (eqb n size_out_of_range) _ _ max_words (omega arith)
+    (either_fits (eqb n operand_not_allowed) _ _ max_words (omega arith)
+    (either_fits (eqb n too_deep) _ _ max_words (omega arith)
+    (either_fits (eqb n not_a_text) _ _ max_words (not_a_text_fits t place) (omega (arith, refused_short n)))))
 
 -- The line of a refusal that has been told apart
-pub said : {l m text : List ℕ} {e : ℕ} {why known : Refusal} (t : List ℕ) (place : ℕ) → why ≡ known → refusal_text (refusalNumber known) t place ≡ text → Written text l 0 m e
-    → Written (refusal_text (refusalNumber why) t place) l 0 m e × (e ≤ max_words)
+pub said : {l m text : List ℕ} {e : ℕ} {why known : Refusal} (t : List ℕ) (place : ℕ) → why ≡ known → refusal_text (refusal_number known) t place ≡ text → Written text l 0 m e
+    → Written (refusal_text (refusal_number why) t place) l 0 m e × (e ≤ max_words)
 said {text = text} {why = why} t place told is written =
-    let text_is : refusal_text (refusalNumber why) t place ≡ text = rw told is in
+    let text_is : refusal_text (refusal_number why) t place ≡ text = rw told is in
     let whole = same_text text_is written in
-    (whole, omega (arith, whole.after, words_fit (refusalNumber why) t place))
+    (whole, omega (arith, whole.after, words_fit (refusal_number why) t place))
 
 -- and of one of the others, by their places in the list of refusals
 abbrev others : List ℕ
 others = 0 ∷ 2 ∷ 3 ∷ 5 ∷ 7 ∷ 8 ∷ 9 ∷ 10 ∷ 11 ∷ 12 ∷ 13 ∷ 14 ∷ []
 
 module _ (t : List ℕ) (place : ℕ) where
-  without_words : (why : Refusal) → OneOf others (tag_of the_type why) → refusal_text (refusalNumber why) t place ≡ refusedText (refusalNumber why)
+  without_words : (why : Refusal) → OneOf others (tag_of the_type why) → refusal_text (refusal_number why) t place ≡ refused_text (refusal_number why)
   unfolding refusal_text
   without_words FileTooShort k = refl
   without_words SizeOutOfRange k = absurd (miss others 1 (tt {0}) k)
@@ -108,11 +108,11 @@ module _ (t : List ℕ) (place : ℕ) where
   without_words NothingAtWork k = refl
   without_words NotAText k = absurd (miss others 15 (tt {0}) k)
 
-  pub other_said : {l m : List ℕ} {e : ℕ} (why : Refusal) → OneOf others (tag_of the_type why) → Written (refusedText (refusalNumber why)) l 0 m e
-      → Written (refusal_text (refusalNumber why) t place) l 0 m e × (e ≤ max_words)
+  pub other_said : {l m : List ℕ} {e : ℕ} (why : Refusal) → OneOf others (tag_of the_type why) → Written (refused_text (refusal_number why)) l 0 m e
+      → Written (refusal_text (refusal_number why) t place) l 0 m e × (e ≤ max_words)
   other_said why k written =
       let whole = same_text (without_words why k) written in
-      (whole, omega (arith, whole.after, words_fit (refusalNumber why) t place))
+      (whole, omega (arith, whole.after, words_fit (refusal_number why) t place))
 
-pub refused_room : (n : ℕ) → 0 + length (refusedText n) < 2 ^ 64
+pub refused_room : (n : ℕ) → 0 + length (refused_text n) < 2 ^ 64
 refused_room n = omega (arith, refused_short n)

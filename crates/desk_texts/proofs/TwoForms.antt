@@ -17,7 +17,7 @@ use Rattle.meaning.specs.Sizes.{header_length, length_of}
 use Rattle.meaning.specs.Kinds.{UNKNOWN, kinds, kind_of, known}
 use Rattle.meaning.specs.Program.{parts, sizes_allowed, entry_at, entries, entry_known, program_tests, program_refusal}
 use Rattle.text_grammar.specs.Characters.{is_blank, is_digit}
-use Rattle.text_grammar.specs.Tokens.{Mark, startWord, waitWord, maintainWord, repeatWord, ifWord, thenWord, elseWord, equalSign, differsSign, atLeastSign, belowSign, semicolon, comma, opening, closing, colon, Token, variable, clock, unknown, spelling, marks, is_number, numbered, named_token, token_among, token_of, is_known, Spelled, ends, token}
+use Rattle.text_grammar.specs.Tokens.{Mark, start_word, wait_word, maintain_word, repeat_word, if_word, then_word, else_word, equal_sign, differs_sign, at_least_sign, below_sign, semicolon, comma, opening, closing, colon, Token, variable, clock, unknown, spelling, marks, is_number, numbered, named_token, token_among, token_of, is_known, Spelled, ends, token}
 use Rattle.text_grammar.specs.Syntax.{Text, write_text}
 use Rattle.text_grammar.specs.Texts.{Fits}
 use Rattle.desk_texts.specs.Forms.{least_byte, telling, is_text}
@@ -109,17 +109,17 @@ named_plain (b ∷ run) h =
 
 mark_plain : (m : Mark) → plain (spelling m) ≡ true
 unfolding spelling
-mark_plain startWord = refl
-mark_plain waitWord = refl
-mark_plain maintainWord = refl
-mark_plain repeatWord = refl
-mark_plain ifWord = refl
-mark_plain thenWord = refl
-mark_plain elseWord = refl
-mark_plain equalSign = refl
-mark_plain differsSign = refl
-mark_plain atLeastSign = refl
-mark_plain belowSign = refl
+mark_plain start_word = refl
+mark_plain wait_word = refl
+mark_plain maintain_word = refl
+mark_plain repeat_word = refl
+mark_plain if_word = refl
+mark_plain then_word = refl
+mark_plain else_word = refl
+mark_plain equal_sign = refl
+mark_plain differs_sign = refl
+mark_plain at_least_sign = refl
+mark_plain below_sign = refl
 mark_plain semicolon = refl
 mark_plain comma = refl
 mark_plain opening = refl

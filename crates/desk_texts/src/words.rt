@@ -1,9 +1,9 @@
 // What a refusal of a text says in words: one line.
 ghost use Rattle.std.specs.Prelude.{◌+◌, ◌<◌, ◌≤◌, ◌^◌, length};
-ghost use Rattle.meaning.specs.Answers.{refusalNumber};
+ghost use Rattle.meaning.specs.Answers.{refusal_number};
 ghost use Rattle.text_grammar.specs.Texts.{max_text_length};
 ghost use Rattle.desk_format.specs.Writing.{Written};
-ghost use Rattle.desk_texts.specs.Words.{column_text, outside_text, not_aText_text, refusal_text, max_words};
+ghost use Rattle.desk_texts.specs.Words.{column_text, outside_text, not_a_text_text, refusal_text, max_words};
 
 use crate::places::{column_of, line_of};
 use desk_answers::write_refused;
@@ -43,7 +43,7 @@ fn write_outside(text: &[u8], place: usize, out: &mut [u8]) -> usize
 // Writes why a text is none: it is too long, or does not fit the grammar from this place on.
 fn write_not_a_text(text: &[u8], place: usize, out: &mut [u8]) -> usize
     requires { place ≤ length text.now }
-    ensures { Written (not_aText_text text.now place) out.old 0 out.new result }
+    ensures { Written (not_a_text_text text.now place) out.old 0 out.new result }
 {
     if MAX_TEXT < text.len() {
         return write_word(b"refused 16: the text has more than 16384 bytes\n", out, 0);
@@ -54,7 +54,7 @@ fn write_not_a_text(text: &[u8], place: usize, out: &mut [u8]) -> usize
 // Writes why a text is refused. The place counts only where it does not fit the grammar.
 pub fn write_words(why: Refusal, text: &[u8], place: usize, out: &mut [u8]) -> usize
     requires { place ≤ length text.now }
-    ensures written { Written (refusal_text (refusalNumber why) text.now place) out.old 0 out.new result }
+    ensures written { Written (refusal_text (refusal_number why) text.now place) out.old 0 out.new result }
     ensures upper_bound { result ≤ max_words }
 {
     match why {

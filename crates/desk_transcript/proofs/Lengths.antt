@@ -16,7 +16,7 @@ use Rattle.desk_format.proofs.Digits.{decimal_few}
 use Rattle.desk_format.proofs.Texts.{three_length, texts_fit}
 use Rattle.desk_format.proofs.Pairs.{length_pairs}
 use Rattle.desk_format.proofs.Labels.{numbered_fits}
-use Rattle.desk_answers.specs.Answers.{refusedText, begunText, settledText, offeredText, lineText}
+use Rattle.desk_answers.specs.Answers.{refused_text, begun_text, settled_text, offered_text, line_text}
 use Rattle.desk_answers.proofs.Answering.{line_pieces}
 use Rattle.desk_answers.proofs.Lengths.{either_fits, refused_short, begun_short, settled_short, offered_long}
 use Rattle.desk_transcript.specs.Transcript.{part_text, marks_text, parts_text, estimate_text, start_text, clock_text, clocks_text, finishing_text, summary_text, max_answer, max_summary}
@@ -24,7 +24,7 @@ use Rattle.desk_transcript.proofs.Marked.{parts_pieces}
 use Rattle.desk_transcript.proofs.Summing.{estimate_pieces, clock_pieces, state_pieces, summary_pieces}
 
 -- The line of a fault
-pub line_text_fits : (n : ℕ) → length (lineText n) ≤ max_answer
+pub line_text_fits : (n : ℕ) → length (line_text n) ≤ max_answer
 line_text_fits n = omega (arith, three_length (line_pieces n), decimal_few n)
 
 -- The marked parts
@@ -38,16 +38,16 @@ parts_fit t r = omega (arith, three_length (parts_pieces t r), texts_fit (part_t
 
 -- An answer with the parts under it
 module _ (t r : List ℕ) (n : ℕ) (few : parts t < number_limit) where
-  pub refused_fits : length (refusedText n) + length (parts_text t r) ≤ max_answer
+  pub refused_fits : length (refused_text n) + length (parts_text t r) ≤ max_answer
   refused_fits = omega (arith, refused_short n, parts_fit t r)
 
-  pub begun_text_fits : length (begunText n) + length (parts_text t r) ≤ max_answer
+  pub begun_text_fits : length (begun_text n) + length (parts_text t r) ≤ max_answer
   begun_text_fits = omega (arith, begun_short n, parts_fit t r)
 
-  pub settled_text_fits : length (settledText n) + length (parts_text t r) ≤ max_answer
+  pub settled_text_fits : length (settled_text n) + length (parts_text t r) ≤ max_answer
   settled_text_fits = omega (arith, settled_short n, parts_fit t r)
 
-  pub offered_text_fits : (goals : List ℕ) → length goals < byte_values → length (offeredText n goals) + length (parts_text t r) ≤ max_answer
+  pub offered_text_fits : (goals : List ℕ) → length goals < byte_values → length (offered_text n goals) + length (parts_text t r) ≤ max_answer
   offered_text_fits goals l = omega (arith, offered_long n goals, parts_fit t r)
 
 -- The summary

@@ -8,7 +8,7 @@ use Rattle.meaning.specs.declared.Refusal.TheVariants.{FileTooShort, SizeOutOfRa
 use Rattle.meaning.specs.declared.Answer.TheVariants.{Done}
 use Rattle.meaning.specs.declared.OfferAnswer.TheVariants.{Agreed, Contested}
 use Rattle.meaning.specs.declared.SettleAnswer.TheVariants.{Running, Finished}
-use Rattle.meaning.specs.Answers.{refusalNumber, answerNumber, offerNumber, settleNumber}
+use Rattle.meaning.specs.Answers.{refusal_number, answer_number, offer_number, settle_number}
 use Rattle.meaning.specs.Table.{compiled}
 use Rattle.meaning.specs.Cycle.{begun_into, offered_into, settled_into}
 use Rattle.meaning.proofs.Computed.{◌gets◌, Holds, file, goal_table, compile, decompile, begin, offer, settle}
@@ -49,28 +49,28 @@ examples = refl
 -- The number of each refusal, and of the answers that are none: of an offer 256 and the variable that it names, 255 for none; of a settling 256
 -- for "running" and 257 for "finished"
 pub answer_numbers : Holds
-    (refusalNumber FileTooShort gets 1
-    ∷ refusalNumber SizeOutOfRange gets 2
-    ∷ refusalNumber WrongLength gets 3
-    ∷ refusalNumber UnknownKind gets 4
-    ∷ refusalNumber OperandNotAllowed gets 5
-    ∷ refusalNumber NotOneTree gets 6
-    ∷ refusalNumber TooDeep gets 7
-    ∷ refusalNumber BufferTooShort gets 8
-    ∷ refusalNumber NotATable gets 9
-    ∷ refusalNumber RecordNotAllowed gets 10
-    ∷ refusalNumber WrongPhase gets 11
-    ∷ refusalNumber TimeBeforeLast gets 12
-    ∷ refusalNumber EstimateNotAllowed gets 13
-    ∷ refusalNumber RunFinished gets 14
-    ∷ refusalNumber NothingAtWork gets 15
-    ∷ refusalNumber NotAText gets 16
-    ∷ answerNumber Done gets 0
-    ∷ offerNumber (Contested 0) gets 256
-    ∷ offerNumber (Contested 31) gets 287
-    ∷ offerNumber Agreed gets 511
-    ∷ settleNumber Running gets 256
-    ∷ settleNumber Finished gets 257
+    (refusal_number FileTooShort gets 1
+    ∷ refusal_number SizeOutOfRange gets 2
+    ∷ refusal_number WrongLength gets 3
+    ∷ refusal_number UnknownKind gets 4
+    ∷ refusal_number OperandNotAllowed gets 5
+    ∷ refusal_number NotOneTree gets 6
+    ∷ refusal_number TooDeep gets 7
+    ∷ refusal_number BufferTooShort gets 8
+    ∷ refusal_number NotATable gets 9
+    ∷ refusal_number RecordNotAllowed gets 10
+    ∷ refusal_number WrongPhase gets 11
+    ∷ refusal_number TimeBeforeLast gets 12
+    ∷ refusal_number EstimateNotAllowed gets 13
+    ∷ refusal_number RunFinished gets 14
+    ∷ refusal_number NothingAtWork gets 15
+    ∷ refusal_number NotAText gets 16
+    ∷ answer_number Done gets 0
+    ∷ offer_number (Contested 0) gets 256
+    ∷ offer_number (Contested 31) gets 287
+    ∷ offer_number Agreed gets 511
+    ∷ settle_number Running gets 256
+    ∷ settle_number Finished gets 257
     ∷ [])
 answer_numbers = refl
 

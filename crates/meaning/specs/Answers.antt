@@ -12,90 +12,90 @@ use Rattle.meaning.specs.Sizes.{max_variables}
 
 -- "Refusal by refusal": each has here the name that the code's `Refusal` and the header give it
 -- "file under 3 bytes"
-abbrev pub fileTooShort : ℕ
-fileTooShort = 1
+abbrev pub file_too_short : ℕ
+file_too_short = 1
 
 -- "a size outside its range"
-abbrev pub sizeOutOfRange : ℕ
-sizeOutOfRange = 2
+abbrev pub size_out_of_range : ℕ
+size_out_of_range = 2
 
 -- "length not 3 + 5 × N"
-abbrev pub wrongLength : ℕ
-wrongLength = 3
+abbrev pub wrong_length : ℕ
+wrong_length = 3
 
 -- "unknown kind"
-abbrev pub unknownKind : ℕ
-unknownKind = 4
+abbrev pub unknown_kind : ℕ
+unknown_kind = 4
 
 -- "operand not allowed"
-abbrev pub operandNotAllowed : ℕ
-operandNotAllowed = 5
+abbrev pub operand_not_allowed : ℕ
+operand_not_allowed = 5
 
 -- "arrays do not form exactly one tree"
-abbrev pub notOneTree : ℕ
-notOneTree = 6
+abbrev pub not_one_tree : ℕ
+not_one_tree = 6
 
 -- "depth above 16"
-abbrev pub tooDeep : ℕ
-tooDeep = 7
+abbrev pub too_deep : ℕ
+too_deep = 7
 
 -- "output buffer too short"
-abbrev pub bufferTooShort : ℕ
-bufferTooShort = 8
+abbrev pub buffer_too_short : ℕ
+buffer_too_short = 8
 
 -- "bytes not the table of any file"
-abbrev pub notATable : ℕ
-notATable = 9
+abbrev pub not_a_table : ℕ
+not_a_table = 9
 
 -- "record not allowed, or under 317 bytes"
-abbrev pub recordNotAllowed : ℕ
-recordNotAllowed = 10
+abbrev pub record_not_allowed : ℕ
+record_not_allowed = 10
 
 -- "settling in phase 0, offer in phase 1"
-abbrev pub wrongPhase : ℕ
-wrongPhase = 11
+abbrev pub wrong_phase : ℕ
+wrong_phase = 11
 
 -- "time before the last time"
-abbrev pub timeBeforeLast : ℕ
-timeBeforeLast = 12
+abbrev pub time_before_last : ℕ
+time_before_last = 12
 
 -- "estimate not V bytes, or one above 250"; "13 is no longer given" for 255 (document 02, R-4)
-abbrev pub estimateNotAllowed : ℕ
-estimateNotAllowed = 13
+abbrev pub estimate_not_allowed : ℕ
+estimate_not_allowed = 13
 
 -- "run finished"
-abbrev pub runFinished : ℕ
-runFinished = 14
+abbrev pub run_finished : ℕ
+run_finished = 14
 
 -- "after settling, root not ended, yet no leaf or deciding CHOICE marked"
-abbrev pub nothingAtWork : ℕ
-nothingAtWork = 15
+abbrev pub nothing_at_work : ℕ
+nothing_at_work = 15
 
 -- "16 for a text outside the grammar or too long" (document 02, R-5)
-abbrev pub notAText : ℕ
-notAText = 16
+abbrev pub not_a_text : ℕ
+not_a_text = 16
 
-abbrev pub refusalNumber : Refusal → ℕ
-refusalNumber FileTooShort = fileTooShort
-refusalNumber SizeOutOfRange = sizeOutOfRange
-refusalNumber WrongLength = wrongLength
-refusalNumber UnknownKind = unknownKind
-refusalNumber OperandNotAllowed = operandNotAllowed
-refusalNumber NotOneTree = notOneTree
-refusalNumber TooDeep = tooDeep
-refusalNumber BufferTooShort = bufferTooShort
-refusalNumber NotATable = notATable
-refusalNumber RecordNotAllowed = recordNotAllowed
-refusalNumber WrongPhase = wrongPhase
-refusalNumber TimeBeforeLast = timeBeforeLast
-refusalNumber EstimateNotAllowed = estimateNotAllowed
-refusalNumber RunFinished = runFinished
-refusalNumber NothingAtWork = nothingAtWork
-refusalNumber NotAText = notAText
+abbrev pub refusal_number : Refusal → ℕ
+refusal_number FileTooShort = file_too_short
+refusal_number SizeOutOfRange = size_out_of_range
+refusal_number WrongLength = wrong_length
+refusal_number UnknownKind = unknown_kind
+refusal_number OperandNotAllowed = operand_not_allowed
+refusal_number NotOneTree = not_one_tree
+refusal_number TooDeep = too_deep
+refusal_number BufferTooShort = buffer_too_short
+refusal_number NotATable = not_a_table
+refusal_number RecordNotAllowed = record_not_allowed
+refusal_number WrongPhase = wrong_phase
+refusal_number TimeBeforeLast = time_before_last
+refusal_number EstimateNotAllowed = estimate_not_allowed
+refusal_number RunFinished = run_finished
+refusal_number NothingAtWork = nothing_at_work
+refusal_number NotAText = not_a_text
 
-abbrev pub answerNumber : Answer → ℕ
-answerNumber Done = 0
-answerNumber (Refused r) = refusalNumber r
+abbrev pub answer_number : Answer → ℕ
+answer_number Done = 0
+answer_number (Refused r) = refusal_number r
 
 -- Numbers from here on are answers that are no refusal: of an offer 256 and the lowest contested variable, 255 for none;
 -- of a settling 256 for "running" and 257 for "finished"
@@ -107,21 +107,21 @@ abbrev pub answering : ℕ → ℕ → ℕ
 answering refusal given = cond (eqb refusal 0) (answered + given) refusal
 
 -- "or 255 exactly where none is contested": the name in an offer's answer that names no variable
-abbrev pub noVariable : ℕ
-noVariable = 255
+abbrev pub no_variable : ℕ
+no_variable = 255
 
-abbrev pub offerNumber : OfferAnswer → ℕ
-offerNumber (OfferRefused r) = refusalNumber r
-offerNumber Agreed = answered + noVariable
-offerNumber (Contested v) = answered + v
+abbrev pub offer_number : OfferAnswer → ℕ
+offer_number (OfferRefused r) = refusal_number r
+offer_number Agreed = answered + no_variable
+offer_number (Contested v) = answered + v
 
 -- the answers that an offer gives: `Contested` only with a variable's number, so that no number is that of two of them
-abbrev pub oneCase : OfferAnswer → Bool
-oneCase (OfferRefused r) = true
-oneCase Agreed = true
-oneCase (Contested v) = ltb v max_variables
+abbrev pub one_case : OfferAnswer → Bool
+one_case (OfferRefused r) = true
+one_case Agreed = true
+one_case (Contested v) = ltb v max_variables
 
-abbrev pub settleNumber : SettleAnswer → ℕ
-settleNumber (SettleRefused r) = refusalNumber r
-settleNumber Running = answered
-settleNumber Finished = answered + 1
+abbrev pub settle_number : SettleAnswer → ℕ
+settle_number (SettleRefused r) = refusal_number r
+settle_number Running = answered
+settle_number Finished = answered + 1

@@ -13,7 +13,7 @@ use Rattle.meaning.specs.Program.{variables, clocks, entry_at}
 use Rattle.meaning.specs.Table.{kind_at, operand_of, end_at, parent_at, next_at, inside_of, is_table}
 use Rattle.meaning.specs.Conditions.{Situation, reached, satisfied, violated}
 use Rattle.meaning.specs.Record.{time_place, estimate_place, started_place, starts_place, marks_place, record_length, phase_of, last_time, estimate_in, started_in, starts_in, marks_in, waiting, offered, finished, is_mark, started_flag, record_bytes, estimate_byte_allowed, record_allowed}
-use Rattle.meaning.specs.Answers.{bufferTooShort, notATable, recordNotAllowed, wrongPhase, timeBeforeLast, estimateNotAllowed, runFinished, nothingAtWork, answering, noVariable}
+use Rattle.meaning.specs.Answers.{buffer_too_short, not_a_table, record_not_allowed, wrong_phase, time_before_last, estimate_not_allowed, run_finished, nothing_at_work, answering, no_variable}
 
 -- "To initialise is to mark the part and initialise SEQ's first child, all of PAR's, MAINTAIN's and REPEAT's child, and none of CHOICE's":
 -- whether part p, inside part q of a kind, is initialised with it
@@ -88,7 +88,7 @@ goal_bytes n es = tabulate (λ v. goal_byte (values_for v es)) 0 n
 -- "The offer now names the lowest-numbered contested variable" (document 02, R-1), "or 255 exactly where none is contested": of the variables
 -- from v on, whose goal bytes these are
 unfoldable pub lowest_contested : ℕ → List ℕ → ℕ
-lowest_contested v [] = noVariable
+lowest_contested v [] = no_variable
 lowest_contested v (b ∷ bs) = cond (eqb b contested) v (lowest_contested (suc v) bs)
 
 -- Settling. What becomes of a marked part (`Transition`)
@@ -157,7 +157,7 @@ fresh_record t est = record_bytes waiting 0 est (replicate (clocks t) 0) (replic
 
 -- "Beginning 9, 13, 8": each number with the test that must pass, in order; the refusal is the first that fails
 abbrev pub begin_tests : List ℕ → List ℕ → ℕ → List (ℕ × Bool)
-begin_tests t est room = (notATable, is_table t) ∷ (estimateNotAllowed, estimate_allowed (variables t) est) ∷ (bufferTooShort, leb record_length room) ∷ []
+begin_tests t est room = (not_a_table, is_table t) ∷ (estimate_not_allowed, estimate_allowed (variables t) est) ∷ (buffer_too_short, leb record_length room) ∷ []
 
 unfoldable pub begin_refusal : List ℕ → List ℕ → ℕ → ℕ
 begin_refusal t est room = first_failing (begin_tests t est room)
@@ -168,12 +168,12 @@ begun_into t est r = cond (eqb (begin_refusal t est (length r)) 0) (sets r 0 (fr
 -- "Offer 9, 10, 14, 11, 12, 8"
 abbrev pub offer_tests : List ℕ → List ℕ → ℕ → ℕ → List (ℕ × Bool)
 offer_tests t r time room =
-    (notATable, is_table t)
-    ∷ (recordNotAllowed, record_allowed t r)
-    ∷ (runFinished, not (eqb (phase_of r) finished))
-    ∷ (wrongPhase, not (eqb (phase_of r) offered))
-    ∷ (timeBeforeLast, leb (last_time r) time)
-    ∷ (bufferTooShort, leb (variables t) room)
+    (not_a_table, is_table t)
+    ∷ (record_not_allowed, record_allowed t r)
+    ∷ (run_finished, not (eqb (phase_of r) finished))
+    ∷ (wrong_phase, not (eqb (phase_of r) offered))
+    ∷ (time_before_last, leb (last_time r) time)
+    ∷ (buffer_too_short, leb (variables t) room)
     ∷ []
 
 unfoldable pub offer_refusal : List ℕ → List ℕ → ℕ → ℕ → ℕ
@@ -218,12 +218,12 @@ works_from t p (m ∷ ms) = (is_mark m && (is_leaf (entry_at Table t p) || (is_k
 -- "Settling 9, 10, 14, 11, 13, 15"
 abbrev pub settle_tests : List ℕ → List ℕ → List ℕ → List (ℕ × Bool)
 settle_tests t r est =
-    (notATable, is_table t)
-    ∷ (recordNotAllowed, record_allowed t r)
-    ∷ (runFinished, not (eqb (phase_of r) finished))
-    ∷ (wrongPhase, not (eqb (phase_of r) waiting))
-    ∷ (estimateNotAllowed, estimate_allowed (variables t) est)
-    ∷ (nothingAtWork, root_ended (settled_marks t r est) || works_from t 0 (settled_marks t r est))
+    (not_a_table, is_table t)
+    ∷ (record_not_allowed, record_allowed t r)
+    ∷ (run_finished, not (eqb (phase_of r) finished))
+    ∷ (wrong_phase, not (eqb (phase_of r) waiting))
+    ∷ (estimate_not_allowed, estimate_allowed (variables t) est)
+    ∷ (nothing_at_work, root_ended (settled_marks t r est) || works_from t 0 (settled_marks t r est))
     ∷ []
 
 unfoldable pub settle_refusal : List ℕ → List ℕ → List ℕ → ℕ

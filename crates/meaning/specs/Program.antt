@@ -8,7 +8,7 @@ use Rattle.meaning.specs.declared.Form.{Form}
 use Rattle.meaning.specs.Sizes.{max_parts, max_variables, max_clocks, max_depth, number_width, header_length, length_of, kind_place, operand_place, number_bytes, number_at}
 use Rattle.meaning.specs.Kinds.{Kind, UNKNOWN, GOAL, START, WAIT, SEQ, PAR, MAINTAIN, CHOICE, REPEAT, kind_of, number_of, known, arity, operand_allowed}
 use Rattle.meaning.specs.Tree.{Part, Parts, goal, start, wait, seq, par, maintain, choice, repeat, one, more, fold, depth, size}
-use Rattle.meaning.specs.Answers.{fileTooShort, sizeOutOfRange, wrongLength, unknownKind, operandNotAllowed, notOneTree, tooDeep}
+use Rattle.meaning.specs.Answers.{file_too_short, size_out_of_range, wrong_length, unknown_kind, operand_not_allowed, not_one_tree, too_deep}
 
 -- "Sizes first: N parts, V variables, K clocks"
 abbrev pub parts : List ℕ → ℕ
@@ -124,17 +124,17 @@ depth_allowed (some p) = leb (depth p) max_depth
 -- Refusals 1 to 7, "each over all parts", in order: each number with the test that must pass
 abbrev pub part_tests : Form → List ℕ → List (ℕ × Bool)
 part_tests form s =
-    (unknownKind, all entry_known (entries form s))
-    ∷ (operandNotAllowed, all (entry_allowed (variables s) (clocks s)) (entries form s))
-    ∷ (notOneTree, is_tree (tree_of form s))
-    ∷ (tooDeep, depth_allowed (tree_of form s))
+    (unknown_kind, all entry_known (entries form s))
+    ∷ (operand_not_allowed, all (entry_allowed (variables s) (clocks s)) (entries form s))
+    ∷ (not_one_tree, is_tree (tree_of form s))
+    ∷ (too_deep, depth_allowed (tree_of form s))
     ∷ []
 
 abbrev pub program_tests : Form → List ℕ → List (ℕ × Bool)
 program_tests form s =
-    (fileTooShort, leb header_length (length s))
-    ∷ (sizeOutOfRange, sizes_allowed s)
-    ∷ (wrongLength, eqb (length s) (length_of form (parts s)))
+    (file_too_short, leb header_length (length s))
+    ∷ (size_out_of_range, sizes_allowed s)
+    ∷ (wrong_length, eqb (length s) (length_of form (parts s)))
     ∷ part_tests form s
 
 -- the refusal of bytes that are to hold a program, 0 where they do

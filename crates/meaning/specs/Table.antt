@@ -10,7 +10,7 @@ use Rattle.meaning.specs.Sizes.{no_part, header_length, end_place, parent_place,
 use Rattle.meaning.specs.Kinds.{Kind, UNKNOWN, GOAL, START, WAIT, SEQ, PAR, MAINTAIN, CHOICE, REPEAT, kind_of, number_of}
 use Rattle.meaning.specs.Tree.{Part, fold, size}
 use Rattle.meaning.specs.Program.{parts, variables, clocks, size_bytes, operand_bytes, entry_at, entries, arrays, tree_of, program_tests, program_refusal}
-use Rattle.meaning.specs.Answers.{bufferTooShort, notATable}
+use Rattle.meaning.specs.Answers.{buffer_too_short, not_a_table}
 
 -- "kind; end (one past the part's last descendant); parent; next; the operand"
 pub record Row : Type 0 where
@@ -108,7 +108,7 @@ is_table t = eqb (program_refusal File (file_in t)) 0 && same (compiled File (fi
 
 -- "reading 1 to 7, each over all parts, then 8": each number with the test that must pass, in order; `room` is the output buffer's length
 abbrev pub room_test : Form → List ℕ → ℕ → List (ℕ × Bool)
-room_test form s room = (bufferTooShort, leb (length_of form (parts s)) room) ∷ []
+room_test form s room = (buffer_too_short, leb (length_of form (parts s)) room) ∷ []
 
 abbrev pub compile_tests : List ℕ → ℕ → List (ℕ × Bool)
 compile_tests f room = program_tests File f ++ room_test Table f room
@@ -123,7 +123,7 @@ compiled_into f out = cond (eqb (compile_refusal f (length out)) 0) (sets out 0 
 
 -- "Back to a file 9, 8"
 abbrev pub decompile_tests : List ℕ → ℕ → List (ℕ × Bool)
-decompile_tests t room = (notATable, is_table t) ∷ room_test File t room
+decompile_tests t room = (not_a_table, is_table t) ∷ room_test File t room
 
 unfoldable pub decompile_refusal : List ℕ → ℕ → ℕ
 decompile_refusal t room = first_failing (decompile_tests t room)

@@ -5,7 +5,7 @@ pub mod kinds;
 pub mod sizes;
 
 ghost use Rattle.std.specs.Prelude.{◌≡◌};
-ghost use Rattle.meaning.specs.Answers.{refusalNumber, answerNumber, offerNumber, settleNumber};
+ghost use Rattle.meaning.specs.Answers.{refusal_number, answer_number, offer_number, settle_number};
 
 use crate::sizes::{ANSWERED, NO_VARIABLE};
 
@@ -107,7 +107,7 @@ pub enum SettleAnswer {
 
 // The number by which document 01 names a refusal.
 pub fn refusal_number(r: Refusal) -> u32
-    ensures { result ≡ refusalNumber r }
+    ensures { result ≡ refusal_number r }
 {
     match r {
         Refusal::FileTooShort => 1,
@@ -131,7 +131,7 @@ pub fn refusal_number(r: Refusal) -> u32
 
 // An answer as a number: 0, or the refusal's.
 pub fn answer_number(a: Answer) -> u32
-    ensures { result ≡ answerNumber a }
+    ensures { result ≡ answer_number a }
 {
     match a {
         Answer::Done => 0,
@@ -141,7 +141,7 @@ pub fn answer_number(a: Answer) -> u32
 
 // An offer's answer as a number: the refusal's, or 256 and the lowest contested variable, 255 for none.
 pub fn offer_number(a: OfferAnswer) -> u32
-    ensures { result ≡ offerNumber a }
+    ensures { result ≡ offer_number a }
 {
     match a {
         OfferAnswer::Refused(r) => refusal_number(r),
@@ -152,7 +152,7 @@ pub fn offer_number(a: OfferAnswer) -> u32
 
 // A settling's answer as a number: the refusal's, or 256 where the run goes on, or 257.
 pub fn settle_number(a: SettleAnswer) -> u32
-    ensures { result ≡ settleNumber a }
+    ensures { result ≡ settle_number a }
 {
     match a {
         SettleAnswer::Refused(r) => refusal_number(r),

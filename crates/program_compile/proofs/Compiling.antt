@@ -18,8 +18,8 @@ use Rattle.meaning.specs.Sizes.{no_part, header_length, length_of, bytes_at}
 use Rattle.meaning.specs.Tree.{Part, size}
 use Rattle.meaning.specs.Program.{parts, variables, clocks, size_bytes, entries, is_tree, program_refusal, operand_bytes, entry_at}
 use Rattle.meaning.specs.Table.{Row, link_bytes, row_bytes, block, table_of, compiled, compile_refusal, compiled_into}
-use Rattle.meaning.specs.Answers.{answerNumber, bufferTooShort}
-use Rattle.meaning.proofs.Answers.{is-refused}
+use Rattle.meaning.specs.Answers.{answer_number, buffer_too_short}
+use Rattle.meaning.proofs.Answers.{is_refused}
 use Rattle.meaning.proofs.Files.{Holds, accepted, sizes_back}
 use Rattle.meaning.proofs.Tables.{rows_entries, compiled_is, row_entry}
 use Rattle.program_walk.specs.Walk.{OneTree, part_at}
@@ -84,18 +84,18 @@ module _ (f out : List ℕ) where
   abbrev CompiledAs : ℕ → List ℕ → Type 0
   CompiledAs n out₁ = (n ≡ compile_refusal f (length out)) × (out₁ ≡ compiled_into f out)
 
-  pub compile_refused : (a : Answer) (r : Refusal) → answerNumber a ≡ program_refusal File f → a ≡ Refused r → CompiledAs (answerNumber a) out
+  pub compile_refused : (a : Answer) (r : Refusal) → answer_number a ≡ program_refusal File f → a ≡ Refused r → CompiledAs (answer_number a) out
   unfolding compile_refusal compiled_into
   compile_refused a r e d =
-      effect (answerNumber a) (compile_refusal f (length out)) (sets out 0 (compiled File f)) out out
-      (e ∙ rw (ne_eqb (program_refusal File f) 0 (is-refused a r (program_refusal File f) e d)))
-      (rw (ne_eqb (answerNumber a) 0 (is-refused a r (answerNumber a) refl d)))
+      effect (answer_number a) (compile_refusal f (length out)) (sets out 0 (compiled File f)) out out
+      (e ∙ rw (ne_eqb (program_refusal File f) 0 (is_refused a r (program_refusal File f) e d)))
+      (rw (ne_eqb (answer_number a) 0 (is_refused a r (answer_number a) refl d)))
 
   module _ (n m : ℕ) (h : program_refusal File f ≡ 0) (n-is : n ≡ parts f) (m-is : m ≡ length_of Table n) where
-    pub compile_short : length out < m → CompiledAs bufferTooShort out
+    pub compile_short : length out < m → CompiledAs buffer_too_short out
     unfolding compile_refusal compiled_into
     compile_short l =
-        effect bufferTooShort (compile_refusal f (length out)) (sets out 0 (compiled File f)) out out
+        effect buffer_too_short (compile_refusal f (length out)) (sets out 0 (compiled File f)) out out
         (rw (h, lt-leb (length_of Table (parts f)) (length out) (omega (arith, m-is ∙ ap (length_of Table) n-is))))
         refl
 

@@ -6,7 +6,7 @@ ghost use Rattle.meaning.specs.declared.Form.TheVariants.{File, Table};
 ghost use Rattle.meaning.specs.Sizes.{length_of};
 ghost use Rattle.meaning.specs.Program.{parts, program_refusal};
 ghost use Rattle.meaning.specs.Table.{compiled, compile_refusal, compiled_into};
-ghost use Rattle.meaning.specs.Answers.{answerNumber};
+ghost use Rattle.meaning.specs.Answers.{answer_number};
 
 use base::copy;
 use meaning::sizes::HEADER;
@@ -17,7 +17,7 @@ use program_rows::writing::write_rows;
 
 // Compiles a program file into its location table: refusals 1 to 7, then 8.
 pub fn compile(file: &[u8], table: &mut [u8]) -> Answer
-    ensures result_value { answerNumber result ≡ compile_refusal file.now (length table.old) }
+    ensures result_value { answer_number result ≡ compile_refusal file.now (length table.old) }
     ensures table_after { table.new ≡ compiled_into file.now table.old }
 {
     let answer = program_refusal(file);

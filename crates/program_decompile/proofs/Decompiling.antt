@@ -15,7 +15,7 @@ use Rattle.meaning.specs.declared.Form.TheVariants.{File, Table}
 use Rattle.meaning.specs.Sizes.{header_length, length_of, bytes_at}
 use Rattle.meaning.specs.Program.{parts, entries, kind_byte, entry_operand, arrays}
 use Rattle.meaning.specs.Table.{file_in, is_table, decompile_refusal, decompiled_into}
-use Rattle.meaning.specs.Answers.{bufferTooShort, notATable}
+use Rattle.meaning.specs.Answers.{buffer_too_short, not_a_table}
 use Rattle.meaning.specs.Operations.{Decompiled}
 use Rattle.meaning.proofs.Files.{length_entries}
 use Rattle.meaning.proofs.Tables.{table_held}
@@ -45,15 +45,15 @@ module _ (t out : List ℕ) (b : Bool) (b-is : b ≡ is_table t) where
       let x = effect n (decompile_refusal t (length out)) (sets out 0 (file_in t)) out out₁ e h in
       record { answer_is = x.0; buffer_is = x.1 }
 
-  pub decompile_refused : not b ≡ true → Decompiled t out notATable out
+  pub decompile_refused : not b ≡ true → Decompiled t out not_a_table out
   unfolding decompile_refusal
-  decompile_refused d = answered_by notATable out (rw (sym b-is ∙ not-true b d)) refl
+  decompile_refused d = answered_by not_a_table out (rw (sym b-is ∙ not-true b d)) refl
 
   module _ (n m : ℕ) (d : not b ≡ false) (n-is : n ≡ parts t) (m-is : m ≡ length_of File n) where
-    pub decompile_short : length out < m → Decompiled t out bufferTooShort out
+    pub decompile_short : length out < m → Decompiled t out buffer_too_short out
     unfolding decompile_refusal
     decompile_short l =
-        answered_by bufferTooShort out
+        answered_by buffer_too_short out
         (rw (sym b-is ∙ not-false b d, lt-leb (length_of File (parts t)) (length out) (omega (arith, m-is ∙ ap (length_of File) n-is))))
         refl
 

@@ -8,7 +8,7 @@ ghost use Rattle.meaning.specs.declared.Form.TheVariants.{File, Table};
 ghost use Rattle.meaning.specs.Sizes.{length_of};
 ghost use Rattle.meaning.specs.Program.{parts};
 ghost use Rattle.meaning.specs.Table.{file_in};
-ghost use Rattle.meaning.specs.Answers.{answerNumber};
+ghost use Rattle.meaning.specs.Answers.{answer_number};
 ghost use Rattle.meaning.specs.Operations.{Decompiled};
 
 use crate::arrays::write_arrays;
@@ -20,7 +20,7 @@ use program_table::is_table;
 
 // Decompiles a location table into the file that it holds: refusals 9, then 8.
 pub fn decompile(table: &[u8], file: &mut [u8]) -> Answer
-    ensures { Decompiled table.now file.old (answerNumber result) file.new }
+    ensures { Decompiled table.now file.old (answer_number result) file.new }
 {
     if !is_table(table) {
         return Answer::Refused(Refusal::NotATable);

@@ -13,7 +13,7 @@ use Rattle.meaning.specs.declared.Form.{Form}
 use Rattle.meaning.specs.Sizes.{max_parts, max_variables, max_clocks, max_depth, header_length, length_of}
 use Rattle.meaning.specs.Tree.{size, depth}
 use Rattle.meaning.specs.Program.{parts, variables, clocks, sizes_allowed, entries, preorder, entry_known, entry_allowed, tree_of, is_tree, part_tests, program_refusal}
-use Rattle.meaning.specs.Answers.{fileTooShort, sizeOutOfRange, wrongLength, unknownKind, operandNotAllowed, notOneTree, tooDeep}
+use Rattle.meaning.specs.Answers.{file_too_short, size_out_of_range, wrong_length, unknown_kind, operand_not_allowed, not_one_tree, too_deep}
 use Rattle.meaning.proofs.Trees.{length_preorder}
 use Rattle.meaning.proofs.Parsing.{trees_are}
 use Rattle.meaning.proofs.Files.{length_entries}
@@ -40,16 +40,16 @@ unfolding sizes_allowed
 has_parts_lem r s e t = leb-true 1 (parts s) (and_left (leb 1 (parts s)) (leb (parts s) max_parts && (leb 1 (variables s) && (leb (variables s) max_variables && leb (clocks s) max_clocks))) (passed r (sizes_allowed s) e t))
 
 module _ (form : Form) (s : List ℕ) where
-  pub too_short : length s < header_length → fileTooShort ≡ program_refusal form s
+  pub too_short : length s < header_length → file_too_short ≡ program_refusal form s
   unfolding program_refusal
   too_short h = rw (lt-leb header_length (length s) h)
 
-  pub sizes_refused : (r : Bool) → header_length ≤ length s → r ≡ sizes_allowed s → not r ≡ true → sizeOutOfRange ≡ program_refusal form s
+  pub sizes_refused : (r : Bool) → header_length ≤ length s → r ≡ sizes_allowed s → not r ≡ true → size_out_of_range ≡ program_refusal form s
   unfolding program_refusal
   sizes_refused r h e t = rw (le-leb header_length (length s) h, refused r (sizes_allowed s) e t)
 
   module _ (r : Bool) (n m : ℕ) (h : header_length ≤ length s) (e : r ≡ sizes_allowed s) (t : not r ≡ false) (p : n ≡ parts s) (l : m ≡ length_of form n) where
-    pub length_refused : (length s ≡ m → ⊥) → wrongLength ≡ program_refusal form s
+    pub length_refused : (length s ≡ m → ⊥) → wrong_length ≡ program_refusal form s
     unfolding program_refusal
     length_refused f =
         rw (le-leb header_length (length s) h, passed r (sizes_allowed s) e t, ne_eqb (length s) (length_of form (parts s)) (λ x. f (x ∙ sym (l ∙ ap (length_of form) p))))
@@ -60,14 +60,14 @@ module _ (form : Form) (s : List ℕ) where
         g ∙ rw (le-leb header_length (length s) h, passed r (sizes_allowed s) e t, eq-eqb (length s) (length_of form (parts s)) (f ∙ l ∙ ap (length_of form) p))
 
   module _ (known : Bool) (a : known ≡ all entry_known (entries form s)) where
-    pub kinds_refused : not known ≡ true → unknownKind ≡ first_failing (part_tests form s)
+    pub kinds_refused : not known ≡ true → unknown_kind ≡ first_failing (part_tests form s)
     kinds_refused t = rw (refused known (all entry_known (entries form s)) a t)
 
     module _ (t : not known ≡ false) (allowed : Bool) (b : allowed ≡ all (entry_allowed (variables s) (clocks s)) (entries form s)) where
       kinds_pass : all entry_known (entries form s) ≡ true
       kinds_pass = passed known (all entry_known (entries form s)) a t
 
-      pub operands_refused : not allowed ≡ true → operandNotAllowed ≡ first_failing (part_tests form s)
+      pub operands_refused : not allowed ≡ true → operand_not_allowed ≡ first_failing (part_tests form s)
       operands_refused u = rw (kinds_pass, refused allowed (all (entry_allowed (variables s) (clocks s)) (entries form s)) b u)
 
       module _ (u : not allowed ≡ false) (r : Bool) (d : r ≡ fills (entries form s) 1) where
@@ -77,7 +77,7 @@ module _ (form : Form) (s : List ℕ) where
         tree_is : is_tree (tree_of form s) ≡ r
         tree_is = one_tree (variables s) (clocks s) form s kinds_pass operands_pass ∙ sym d
 
-        pub tree_refused : not r ≡ true → notOneTree ≡ first_failing (part_tests form s)
+        pub tree_refused : not r ≡ true → not_one_tree ≡ first_failing (part_tests form s)
         tree_refused f = rw (kinds_pass, operands_pass, tree_is, not-true r f)
 
         -- a tree that stands alone has all parts
@@ -87,13 +87,13 @@ module _ (form : Form) (s : List ℕ) where
             omega (arith, length_preorder one.part, ap length are, length-append (preorder one.part) [], length_entries form s)
 
         -- one tree of allowed parts that the walk does not find to end is too deep
-        pub depth_refused : not r ≡ false → (parts_end form s any_end max_depth 1 0 ≡ parts s → ⊥) → tooDeep ≡ first_failing (part_tests form s)
+        pub depth_refused : not r ≡ false → (parts_end form s any_end max_depth 1 0 ≡ parts s → ⊥) → too_deep ≡ first_failing (part_tests form s)
         depth_refused f no_end =
             let one : Alone form s = alone form s (tree_is ∙ not-false r f) in
             let fine : (p : ℕ) → p < parts s → Fine form s any_end p = λ p h. record { allowed = each_entry form s (entry_allowed (variables s) (clocks s)) operands_pass p h; tested = refl } in
             go one (leb (depth one.part) max_depth) refl (whole_reached form s any_end fine max_depth one.part one.is)
           where
-            go : (one : Alone form s) (x : Bool) → leb (depth one.part) max_depth ≡ x → parts_end form s any_end max_depth 1 0 ≡ cond x (0 + size one.part) 0 → tooDeep ≡ first_failing (part_tests form s)
+            go : (one : Alone form s) (x : Bool) → leb (depth one.part) max_depth ≡ x → parts_end form s any_end max_depth 1 0 ≡ cond x (0 + size one.part) 0 → too_deep ≡ first_failing (part_tests form s)
             go one true x-is e = absurd (no_end (e ∙ omega (arith, alone_size one)))
             go one false x-is e = rw (kinds_pass, operands_pass, one.tree, x-is)
 

@@ -7,7 +7,7 @@ ghost use Rattle.base.specs.Lists.{first_failing};
 ghost use Rattle.meaning.specs.declared.Form.TheVariants.{File};
 ghost use Rattle.meaning.specs.Sizes.{max_depth, length_of};
 ghost use Rattle.meaning.specs.Program.{parts, part_tests, program_refusal};
-ghost use Rattle.meaning.specs.Answers.{answerNumber};
+ghost use Rattle.meaning.specs.Answers.{answer_number};
 ghost use Rattle.program_walk.specs.Walk.{any_end, parts_end};
 
 use crate::scan::{is_one_tree, kinds_known, operands_allowed};
@@ -18,7 +18,7 @@ use program_walk::extent::root_extent;
 
 // Whether s is a program file, or why not: refusals 1 to 7.
 pub fn program_refusal(s: &[u8]) -> Answer
-    ensures { answerNumber result ≡ program_refusal File s.now }
+    ensures { answer_number result ≡ program_refusal File s.now }
 {
     if s.len() < HEADER {
         return Answer::Refused(Refusal::FileTooShort);
@@ -37,7 +37,7 @@ pub fn program_refusal(s: &[u8]) -> Answer
 fn parts_refusal(s: &[u8]) -> Answer
     requires s_in_bounds { length_of File (parts s.now) ≤ length s.now }
     requires bound { 1 ≤ parts s.now }
-    ensures { answerNumber result ≡ first_failing (part_tests File s.now) }
+    ensures { answer_number result ≡ first_failing (part_tests File s.now) }
 {
     if root_extent(s) == parts(s) {
         return Answer::Done;
@@ -50,7 +50,7 @@ fn parts_refusal(s: &[u8]) -> Answer
 fn failed_walk_refusal(s: &[u8]) -> Answer
     requires s_in_bounds { length_of File (parts s.now) ≤ length s.now }
     requires fact { parts_end File s.now any_end max_depth 1 0 ≡ parts s.now → ⊥ }
-    ensures { answerNumber result ≡ first_failing (part_tests File s.now) }
+    ensures { answer_number result ≡ first_failing (part_tests File s.now) }
 {
     if !kinds_known(s) {
         return Answer::Refused(Refusal::UnknownKind);

@@ -8,7 +8,7 @@ use borrow.Author.Tests.{le-leb, lt-leb, not-true, not-false, ne_eqb}
 use Rattle.base.specs.Lists.{first_failing}
 use Rattle.meaning.specs.Table.{is_table}
 use Rattle.meaning.specs.Record.{record_length, phase_of, marks_in, finished, rest_zero, values_allowed, clocks_allowed, root_allowed, parts_allowed, record_allowed}
-use Rattle.meaning.specs.Answers.{notATable, recordNotAllowed, runFinished}
+use Rattle.meaning.specs.Answers.{not_a_table, record_not_allowed, run_finished}
 use Rattle.run_allowed.specs.Running.{run_tests}
 
 pub record_too_short : (t r : List ℕ) → length r < record_length → false ≡ record_allowed t r
@@ -16,18 +16,18 @@ unfolding record_allowed
 record_too_short t r h = rw (lt-leb record_length (length r) h)
 
 module _ (t r : List ℕ) (a : Bool) (a-is : a ≡ is_table t) where
-  pub not_table : not a ≡ true → notATable ≡ first_failing (run_tests t r)
+  pub not_table : not a ≡ true → not_a_table ≡ first_failing (run_tests t r)
   not_table h = rw (← a-is, not-true a h)
 
   pub is_table_lem : not a ≡ false → is_table t ≡ true
   is_table_lem h = sym a-is ∙ not-false a h
 
   module _ (b : Bool) (b-is : b ≡ record_allowed t r) (a-holds : not a ≡ false) where
-    pub not_allowed : not b ≡ true → recordNotAllowed ≡ first_failing (run_tests t r)
+    pub not_allowed : not b ≡ true → record_not_allowed ≡ first_failing (run_tests t r)
     not_allowed h = rw (← a-is, not-false a a-holds, ← b-is, not-true b h)
 
     module _ (p : ℕ) (p-is : p ≡ phase_of r) (b-holds : not b ≡ false) where
-      pub run_over : p ≡ finished → runFinished ≡ first_failing (run_tests t r)
+      pub run_over : p ≡ finished → run_finished ≡ first_failing (run_tests t r)
       run_over h = rw (← a-is, not-false a a-holds, ← b-is, not-false b b-holds, ← p-is, h)
 
       pub goes_on_lem : (p ≡ finished → ⊥) → 0 ≡ first_failing (run_tests t r)

@@ -7,7 +7,7 @@ ghost use Rattle.std.specs.Prelude.{◌≡◌, true};
 ghost use Rattle.base.specs.Lists.{first_failing};
 ghost use Rattle.meaning.specs.Table.{is_table};
 ghost use Rattle.meaning.specs.Record.{record_allowed};
-ghost use Rattle.meaning.specs.Answers.{answerNumber};
+ghost use Rattle.meaning.specs.Answers.{answer_number};
 ghost use Rattle.run_allowed.specs.Running.{run_tests};
 
 use crate::marks::{parts_allowed, root_allowed};
@@ -34,7 +34,7 @@ pub fn record_allowed(t: &[u8], r: &[u8]) -> bool
 
 // Whether table and record are those of a run that goes on, or why not: 9, 10, 14.
 pub fn run_refusal(t: &[u8], r: &[u8]) -> Answer
-    ensures { answerNumber result ≡ first_failing (run_tests t.now r.now) }
+    ensures { answer_number result ≡ first_failing (run_tests t.now r.now) }
 {
     if !is_table(t) {
         return Answer::Refused(Refusal::NotATable);

@@ -15,7 +15,7 @@ use Rattle.meaning.specs.Table.{is_table}
 use Rattle.meaning.specs.Record.{estimate_place, marks_place, record_length, waiting, padded, record_bytes}
 use Rattle.meaning.specs.Cycle.{initial_marks, estimate_allowed, begin_refusal, begun_into}
 use Rattle.meaning.specs.Operations.{Begun}
-use Rattle.meaning.specs.Answers.{bufferTooShort, notATable, estimateNotAllowed}
+use Rattle.meaning.specs.Answers.{buffer_too_short, not_a_table, estimate_not_allowed}
 use Rattle.meaning.proofs.Tables.{table_held, root_there}
 use Rattle.program_part.proofs.Places.{parts_fit}
 use Rattle.meaning.proofs.Records.{Shaped, length_root, estimate_fits, begin_tests_lem, begun_fits, begun_bytes, estimate_written, marks_written}
@@ -82,17 +82,17 @@ module _ (t est r : List ℕ) where
   module _ (b : Bool) (b-is : b ≡ is_table t) where
     pub begin_no_table : not b ≡ true → Begun t est r 9 r
     unfolding begin_refusal
-    begin_no_table d = refused notATable (rw (sym b-is ∙ not-true b d)) (λ e. omega arith)
+    begin_no_table d = refused not_a_table (rw (sym b-is ∙ not-true b d)) (λ e. omega arith)
 
     module _ (c : Bool) (d : not b ≡ false) (c-is : c ≡ estimate_allowed (variables t) est) where
       pub begin_no_estimate : not c ≡ true → Begun t est r 13 r
       unfolding begin_refusal
-      begin_no_estimate f = refused estimateNotAllowed (rw (sym b-is ∙ not-false b d, sym c-is ∙ not-true c f)) (λ e. omega arith)
+      begin_no_estimate f = refused estimate_not_allowed (rw (sym b-is ∙ not-false b d, sym c-is ∙ not-true c f)) (λ e. omega arith)
 
       module _ (f : not c ≡ false) where
         pub begin_short : length r < record_length → Begun t est r 8 r
         unfolding begin_refusal
-        begin_short l = refused bufferTooShort (rw (sym b-is ∙ not-false b d, sym c-is ∙ not-false c f, lt-leb record_length (length r) l)) (λ e. omega arith)
+        begin_short l = refused buffer_too_short (rw (sym b-is ∙ not-false b d, sym c-is ∙ not-false c f, lt-leb record_length (length r) l)) (λ e. omega arith)
 
         pub begin_not_refused : record_length ≤ length r → begin_refusal t est (length r) ≡ 0
         unfolding begin_refusal

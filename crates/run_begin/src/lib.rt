@@ -3,7 +3,7 @@
 #![tactic(auto)]
 ghost use Rattle.std.specs.Prelude.{◌≡◌, length};
 ghost use Rattle.meaning.specs.Cycle.{begin_refusal, begun_into};
-ghost use Rattle.meaning.specs.Answers.{answerNumber};
+ghost use Rattle.meaning.specs.Answers.{answer_number};
 ghost use Rattle.meaning.specs.Operations.{Begun};
 
 use base::{copy_inside, fill};
@@ -15,7 +15,7 @@ use run_initialise::initialise;
 
 // Begins a run: refusals 9, 13, 8.
 pub fn begin(t: &[u8], est: &[u8], r: &mut [u8]) -> Answer
-    ensures { Begun t.now est.now r.old (answerNumber result) r.new }
+    ensures { Begun t.now est.now r.old (answer_number result) r.new }
 {
     if !is_table(t) {
         return Answer::Refused(Refusal::NotATable);

@@ -12,7 +12,7 @@ use borrow.Author.Tests.{eq-eqb, ne_eqb, lt-ltb}
 use Rattle.base.specs.Lists.{bytes_at}
 use Rattle.meaning.specs.Sizes.{max_variables}
 use Rattle.meaning.specs.Cycle.{contested, lowest_contested}
-use Rattle.meaning.specs.Answers.{answered, noVariable}
+use Rattle.meaning.specs.Answers.{answered, no_variable}
 
 -- what is left to look at, from variable v on
 module _ (g : List ℕ) (v n x : ℕ) (i : lowest_contested v (bytes_at g v (n - v)) ≡ x) where
@@ -30,11 +30,11 @@ module _ (g : List ℕ) (v n x : ℕ) (i : lowest_contested v (bytes_at g v (n -
   pub name_passed : (w : ℕ) → v < n → w ≡ v → (get_or g w 0 ≡ contested → ⊥) → lowest_contested (v + 1) (bytes_at g (v + 1) (n - (v + 1))) ≡ x
   name_passed w l w-is h = rw add-one (rw (ne_eqb (get_or g v 0) contested (λ e. h (rw w-is e))) at (name_next l))
 
-  pub name_none : n ≤ v → answered + noVariable ≡ answered + x
+  pub name_none : n ≤ v → answered + no_variable ≡ answered + x
   unfolding lowest_contested
   name_none l =
       let k : n - v ≡ 0 = omega arith in
-      let e : noVariable ≡ x = rw k at i in
+      let e : no_variable ≡ x = rw k at i in
       ap (λ (y : ℕ). answered + y) e
 
 -- a variable below the number of variables is one that `Contested` may name

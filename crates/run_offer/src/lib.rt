@@ -8,7 +8,7 @@ ghost use Rattle.std.proofs.lemmas.List.Edits.{sets};
 ghost use Rattle.meaning.specs.Table.{is_table};
 ghost use Rattle.meaning.specs.Record.{record_length};
 ghost use Rattle.meaning.specs.Cycle.{offer_refusal, offered_record, offered_goals, offered_name};
-ghost use Rattle.meaning.specs.Answers.{answered, answerNumber, offerNumber, oneCase};
+ghost use Rattle.meaning.specs.Answers.{answered, answer_number, offer_number, one_case};
 ghost use Rattle.meaning.specs.Operations.{Offered};
 
 use crate::checks::check_marks;
@@ -24,8 +24,8 @@ use run_record::times::put_time;
 
 // Makes an offer: refusals 9, 10, 14, 11, 12, 8.
 pub fn offer(t: &[u8], r: &mut [u8], time: u32, goals: &mut [u8]) -> OfferAnswer
-    ensures offered { Offered t.now r.old time goals.old (offerNumber result) r.new goals.new }
-    ensures result_value { oneCase result ≡ true }
+    ensures offered { Offered t.now r.old time goals.old (offer_number result) r.new goals.new }
+    ensures result_value { one_case result ≡ true }
 {
     let answer = offer_refusal(t, r, time, goals.len());
     match answer {
@@ -36,7 +36,7 @@ pub fn offer(t: &[u8], r: &mut [u8], time: u32, goals: &mut [u8]) -> OfferAnswer
 
 // Why an offer is refused. Nothing is written before this is known.
 fn offer_refusal(t: &[u8], r: &[u8], time: u32, room: usize) -> Answer
-    ensures { answerNumber result ≡ offer_refusal t.now r.now time room }
+    ensures { answer_number result ≡ offer_refusal t.now r.now time room }
 {
     let answer = run_refusal(t, r);
     let Answer::Done = answer else {
@@ -57,8 +57,8 @@ fn offer_refusal(t: &[u8], r: &[u8], time: u32, room: usize) -> Answer
 // Makes an offer that nothing refuses.
 fn make_offer(t: &[u8], r: &mut [u8], time: u32, goals: &mut [u8]) -> OfferAnswer
     requires { offer_refusal t.now r.old time (length goals.old) ≡ 0 }
-    ensures result_value { offerNumber result ≡ answered + offered_name t.now r.old time }
-    ensures result_value_2 { oneCase result ≡ true }
+    ensures result_value { offer_number result ≡ answered + offered_name t.now r.old time }
+    ensures result_value_2 { one_case result ≡ true }
     ensures r_after { r.new ≡ offered_record t.now r.old time }
     ensures goals_after { goals.new ≡ sets goals.old 0 (offered_goals t.now r.old time) }
 {

@@ -19,9 +19,9 @@ use Rattle.meaning.specs.Program.{parts, variables}
 use Rattle.meaning.specs.Table.{is_table}
 use Rattle.meaning.specs.Record.{record_length, phase_of, last_time, marks_place, marks_in, waiting}
 use Rattle.meaning.specs.Cycle.{estimate_allowed, situation, settled_marks, root_ended, works_from, settle_refusal, settled_record, settled_into}
-use Rattle.meaning.specs.Answers.{refusalNumber, answerNumber, answered, nothingAtWork, wrongPhase, estimateNotAllowed}
+use Rattle.meaning.specs.Answers.{refusal_number, answer_number, answered, nothing_at_work, wrong_phase, estimate_not_allowed}
 use Rattle.meaning.specs.Operations.{Settled}
-use Rattle.meaning.proofs.Answers.{not-refused, is-refused, refused-before, left_open}
+use Rattle.meaning.proofs.Answers.{not_refused, is_refused, refused_before, left_open}
 use Rattle.meaning.proofs.Records.{length_settled, allowed_long, estimate_fits}
 use Rattle.meaning.proofs.Tables.{root_there}
 use Rattle.program_part.proofs.Places.{parts_fit}
@@ -30,21 +30,21 @@ use Rattle.run_settle.specs.Answering.{later_tests, early_tests, early_refusal, 
 
 module _ (t r est : List ℕ) where
   -- The early refusals: those of every run that does not go on, then 11 and 13
-  module _ (a : Answer) (a-is : answerNumber a ≡ first_failing (run_tests t r)) where
-    pub not_running : (why : Refusal) → a ≡ Refused why → answerNumber a ≡ early_refusal t r est
+  module _ (a : Answer) (a-is : answer_number a ≡ first_failing (run_tests t r)) where
+    pub not_running : (why : Refusal) → a ≡ Refused why → answer_number a ≡ early_refusal t r est
     unfolding early_refusal
-    not_running = refused-before (run_tests t r) (later_tests t r est) refl a a-is
+    not_running = refused_before (run_tests t r) (later_tests t r est) refl a a-is
 
     module _ (going : a ≡ Done) (k : ℕ) (k-is : k ≡ phase_of r) where
       then_later : early_refusal t r est ≡ first_failing (later_tests t r est)
       unfolding early_refusal
       then_later = left_open (run_tests t r) (later_tests t r est) refl a a-is going
 
-      pub is_waiting : k ≡ waiting → wrongPhase ≡ early_refusal t r est
+      pub is_waiting : k ≡ waiting → wrong_phase ≡ early_refusal t r est
       is_waiting e = sym (then_later ∙ rw (← k-is, e))
 
       module _ (asked : k ≡ waiting → ⊥) (d : Bool) (d-is : d ≡ estimate_allowed (variables t) est) where
-        pub not_estimate : not d ≡ true → estimateNotAllowed ≡ early_refusal t r est
+        pub not_estimate : not d ≡ true → estimate_not_allowed ≡ early_refusal t r est
         not_estimate n = sym (then_later ∙ rw (← k-is, ne_eqb k waiting asked, sym d-is ∙ not-true d n))
 
         pub none_early : not d ≡ false → 0 ≡ early_refusal t r est
@@ -52,16 +52,16 @@ module _ (t r est : List ℕ) where
 
   -- 15 comes after them
   abbrev last_test : List (ℕ × Bool)
-  last_test = (nothingAtWork, root_ended (settled_marks t r est) || works_from t 0 (settled_marks t r est)) ∷ []
+  last_test = (nothing_at_work, root_ended (settled_marks t r est) || works_from t 0 (settled_marks t r est)) ∷ []
 
   -- Judging: an early refusal is the settling's
-  pub judged_early : (a : Answer) (why : Refusal) (m : List ℕ) → answerNumber a ≡ early_refusal t r est → a ≡ Refused why → Judged t r est (answerNumber a) m
+  pub judged_early : (a : Answer) (why : Refusal) (m : List ℕ) → answer_number a ≡ early_refusal t r est → a ≡ Refused why → Judged t r est (answer_number a) m
   unfolding settle_refusal early_refusal
   judged_early a why m a-is d =
-      let e : answerNumber a ≡ settle_refusal t r est = refused-before (early_tests t r est) last_test refl a a-is why d in
-      record { answer_is = e; marks_are = λ z. absurd (is-refused a why (settle_refusal t r est) e d z) }
+      let e : answer_number a ≡ settle_refusal t r est = refused_before (early_tests t r est) last_test refl a a-is why d in
+      record { answer_is = e; marks_are = λ z. absurd (is_refused a why (settle_refusal t r est) e d z) }
 
-  module _ (a : Answer) (a-is : answerNumber a ≡ early_refusal t r est) (done : a ≡ Done) where
+  module _ (a : Answer) (a-is : answer_number a ≡ early_refusal t r est) (done : a ≡ Done) where
     then_15 : settle_refusal t r est ≡ first_failing last_test
     unfolding settle_refusal early_refusal
     then_15 = left_open (early_tests t r est) last_test refl a a-is done
@@ -69,7 +69,7 @@ module _ (t r est : List ℕ) where
     -- what they find where they refuse nothing
     passes : Passed (early_tests t r est)
     unfolding early_refusal
-    passes = none_fails (early_tests t r est) refl (not-refused a (early_refusal t r est) a-is done)
+    passes = none_fails (early_tests t r est) refl (not_refused a (early_refusal t r est) a-is done)
 
     pub settling_is_table : is_table t ≡ true
     settling_is_table = passes.0
@@ -106,16 +106,16 @@ module _ (t r est : List ℕ) where
       judged_stuck e = record { answer_is = sym (late false e); marks_are = λ _. marks_there }
 
   -- Settling: a refused call changes nothing
-  pub settled_refused : (a : Answer) (why : Refusal) (m : List ℕ) → Judged t r est (answerNumber a) m → a ≡ Refused why → Settled t r est (refusalNumber why) r
+  pub settled_refused : (a : Answer) (why : Refusal) (m : List ℕ) → Judged t r est (answer_number a) m → a ≡ Refused why → Settled t r est (refusal_number why) r
   unfolding settled_into
   settled_refused a why m j d =
-      let e : refusalNumber why ≡ settle_refusal t r est = ap answerNumber (sym d) ∙ j.answer_is in
-      let some : eqb (settle_refusal t r est) 0 ≡ false = ne_eqb (settle_refusal t r est) 0 (is-refused a why (settle_refusal t r est) j.answer_is d) in
+      let e : refusal_number why ≡ settle_refusal t r est = ap answer_number (sym d) ∙ j.answer_is in
+      let some : eqb (settle_refusal t r est) 0 ≡ false = ne_eqb (settle_refusal t r est) 0 (is_refused a why (settle_refusal t r est) j.answer_is d) in
       record { answer_is = rw some e; record_is = rw some }
 
-  module _ (a : Answer) (m : List ℕ) (j : Judged t r est (answerNumber a) m) (done : a ≡ Done) where
+  module _ (a : Answer) (m : List ℕ) (j : Judged t r est (answer_number a) m) (done : a ≡ Done) where
     none : settle_refusal t r est ≡ 0
-    none = not-refused a (settle_refusal t r est) j.answer_is done
+    none = not_refused a (settle_refusal t r est) j.answer_is done
 
     -- what writing the record asks
     pub to_commit : (is_table t ≡ true) × ((record_length ≤ length r) × ((estimate_allowed (variables t) est ≡ true) × (bytes_at m 0 (parts t) ≡ settled_marks t r est)))

@@ -4,12 +4,12 @@ use Rattle.base.specs.Lists.{first_failing, bytes_at}
 use Rattle.meaning.specs.Program.{parts, variables}
 use Rattle.meaning.specs.Record.{phase_of, waiting}
 use Rattle.meaning.specs.Cycle.{estimate_allowed, settled_marks, settle_refusal}
-use Rattle.meaning.specs.Answers.{wrongPhase, estimateNotAllowed}
+use Rattle.meaning.specs.Answers.{wrong_phase, estimate_not_allowed}
 use Rattle.run_allowed.specs.Running.{run_tests}
 
 -- the tests that need no marks: those of every run, then 11 and 13
 abbrev pub later_tests : List ℕ → List ℕ → List ℕ → List (ℕ × Bool)
-later_tests t r est = (wrongPhase, not (eqb (phase_of r) waiting)) ∷ (estimateNotAllowed, estimate_allowed (variables t) est) ∷ []
+later_tests t r est = (wrong_phase, not (eqb (phase_of r) waiting)) ∷ (estimate_not_allowed, estimate_allowed (variables t) est) ∷ []
 
 abbrev pub early_tests : List ℕ → List ℕ → List ℕ → List (ℕ × Bool)
 early_tests t r est = run_tests t r ++ later_tests t r est

@@ -9,7 +9,7 @@ ghost use Rattle.meaning.specs.Program.{parts, variables};
 ghost use Rattle.meaning.specs.Table.{is_table};
 ghost use Rattle.meaning.specs.Record.{record_length, waiting, finished};
 ghost use Rattle.meaning.specs.Cycle.{estimate_allowed, root_ended, settled_marks, settled_record};
-ghost use Rattle.meaning.specs.Answers.{answerNumber, settleNumber};
+ghost use Rattle.meaning.specs.Answers.{answer_number, settle_number};
 ghost use Rattle.meaning.specs.Operations.{Settled};
 ghost use Rattle.run_settle.specs.Answering.{early_refusal, Judged};
 
@@ -28,7 +28,7 @@ use run_record::fields::phase;
 
 // The refusals that need no marks: 9, 10, 14, 11, 13.
 fn early_refusal(t: &[u8], r: &[u8], est: &[u8]) -> Answer
-    ensures { answerNumber result ≡ early_refusal t.now r.now est.now }
+    ensures { answer_number result ≡ early_refusal t.now r.now est.now }
 {
     let answer = run_refusal(t, r);
     let Answer::Done = answer else {
@@ -46,7 +46,7 @@ fn early_refusal(t: &[u8], r: &[u8], est: &[u8]) -> Answer
 // Every refusal, 15 last, with the marks after the settling in m where there is none.
 fn judge(t: &[u8], r: &[u8], est: &[u8], m: &mut [u8]) -> Answer
     requires { length m.old ≡ max_parts }
-    ensures { Judged t.now r.now est.now (answerNumber result) m.new }
+    ensures { Judged t.now r.now est.now (answer_number result) m.new }
 {
     let answer = early_refusal(t, r, est);
     let Answer::Done = answer else {
@@ -89,7 +89,7 @@ fn commit(t: &[u8], r: &mut [u8], est: &[u8], m: &[u8])
 
 // Settles a cycle: refusals 9, 10, 14, 11, 13, 15.
 pub fn settle(t: &[u8], r: &mut [u8], est: &[u8]) -> SettleAnswer
-    ensures { Settled t.now r.old est.now (settleNumber result) r.new }
+    ensures { Settled t.now r.old est.now (settle_number result) r.new }
 {
     let mut m = [0u8; MAX_MARKS];
     let answer = judge(t, r, est, &mut m);

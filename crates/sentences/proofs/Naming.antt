@@ -12,7 +12,7 @@ use borrow.Author.Tests.{eqb-true, eqb-false}
 use Rattle.meaning.specs.Program.{variables}
 use Rattle.meaning.specs.Table.{is_table}
 use Rattle.meaning.specs.Cycle.{leaves_from, contested, lowest_contested, checked_marks, offered_goals, offered_name}
-use Rattle.meaning.specs.Answers.{noVariable}
+use Rattle.meaning.specs.Answers.{no_variable}
 use Rattle.meaning.proofs.Entries.{length_goals}
 use Rattle.meaning.proofs.Nesting.{lower}
 use Rattle.sentences.specs.Marks.{GoalsDiffer, NamesLowest}
@@ -24,7 +24,7 @@ ContestedIn gs v = get_or gs v 0 ≡ contested
 
 -- what is named among the bytes of the variables from v on: the i-th of them, or none
 abbrev Found : ℕ → List ℕ → ℕ → Type 0
-Found v gs x = ((i : ℕ) × (x ≡ v + i) × (i < length gs) × ContestedIn gs i × ((j : ℕ) → j < i → ContestedIn gs j → ⊥)) ⊎ ((x ≡ noVariable) × ((j : ℕ) → j < length gs → ContestedIn gs j → ⊥))
+Found v gs x = ((i : ℕ) × (x ≡ v + i) × (i < length gs) × ContestedIn gs i × ((j : ℕ) → j < i → ContestedIn gs j → ⊥)) ⊎ ((x ≡ no_variable) × ((j : ℕ) → j < length gs → ContestedIn gs j → ⊥))
 
 module _ (v b : ℕ) (bs : List ℕ) (x : ℕ) where
   -- where the first is not contested, the others decide

@@ -17,7 +17,7 @@ use Rattle.meaning.specs.declared.Form.TheVariants.{File, Table}
 use Rattle.meaning.specs.Sizes.{length_of}
 use Rattle.meaning.specs.Program.{parts}
 use Rattle.meaning.specs.Table.{compiled, file_in, is_table, compile_refusal, compiled_into, decompile_tests, decompile_refusal, decompiled_into}
-use Rattle.meaning.specs.Answers.{bufferTooShort, notATable}
+use Rattle.meaning.specs.Answers.{buffer_too_short, not_a_table}
 use Rattle.meaning.proofs.Files.{accepted}
 use Rattle.meaning.proofs.Tables.{file_back, table_of_file, table_held}
 use Rattle.meaning.proofs.Refusals.{compile_accepts}
@@ -61,11 +61,11 @@ no_file t = (λ h f g. false≢true (sym h ∙ given_table f t g), λ n. go (is_
     go false h n = refl
 
 -- and 9 is their refusal alone
-nine : (t : List ℕ) (room : ℕ) → (decompile_refusal t room ≡ notATable) ↔ (is_table t ≡ false)
+nine : (t : List ℕ) (room : ℕ) → (decompile_refusal t room ≡ not_a_table) ↔ (is_table t ≡ false)
 unfolding decompile_refusal
 nine t room = (λ h. go (is_table t) (leb (length_of File (parts t)) room) h, λ h. rw h)
   where
-    go : (b c : Bool) → first_failing ((notATable, b) ∷ (bufferTooShort, c) ∷ []) ≡ notATable → b ≡ false
+    go : (b c : Bool) → first_failing ((not_a_table, b) ∷ (buffer_too_short, c) ∷ []) ≡ not_a_table → b ≡ false
     go true true h = absurd (omega arith)
     go true false h = absurd (omega arith)
     go false c h = refl

@@ -7,7 +7,7 @@ use Rattle.meaning.specs.Program.{entry_at}
 use Rattle.meaning.specs.Table.{kind_at, operand_of, Inside}
 use Rattle.meaning.specs.Record.{started_in, is_mark}
 use Rattle.meaning.specs.Cycle.{is_kind}
-use Rattle.meaning.specs.Answers.{noVariable}
+use Rattle.meaning.specs.Answers.{no_variable}
 
 -- part p is marked
 abbrev pub Marked : List ℕ → ℕ → Type 0
@@ -46,7 +46,7 @@ GoalsDiffer t ms v = (p : ℕ) × (q : ℕ) × GoalAt t ms v p × GoalAt t ms v 
 -- "names the lowest-numbered contested variable" (document 02, R-1), "or 255 exactly where none is contested": of n variables, x is contested and none
 -- below it is, or x is 255 and none is contested
 abbrev pub NamesLowest : (ℕ → Type 0) → ℕ → ℕ → Type 0
-NamesLowest Contested n x = ((x < n) × Contested x × ((v : ℕ) → v < x → Contested v → ⊥)) ⊎ ((x ≡ noVariable) × ((v : ℕ) → v < n → Contested v → ⊥))
+NamesLowest Contested n x = ((x < n) × Contested x × ((v : ℕ) → v < x → Contested v → ⊥)) ⊎ ((x ≡ no_variable) × ((v : ℕ) → v < n → Contested v → ⊥))
 
 -- part p is a marked START of clock c
 abbrev pub StartAt : List ℕ → List ℕ → ℕ → ℕ → Type 0

@@ -6,7 +6,7 @@ use Rattle.meaning.specs.declared.Form.TheVariants.{File, Table}
 use Rattle.meaning.specs.Sizes.{length_of}
 use Rattle.meaning.specs.Program.{parts, program_refusal}
 use Rattle.meaning.specs.Table.{compiled, file_in, is_table, decompile_refusal}
-use Rattle.meaning.specs.Answers.{notATable}
+use Rattle.meaning.specs.Answers.{not_a_table}
 use Rattle.meaning.specs.Operations.{Compiled, Decompiled}
 
 -- What stands at the front of a buffer into which a file or a table of n parts is written, and its further bytes
@@ -57,7 +57,7 @@ pub record Inverses : Type 0 where
   pub one_file : (f t : List ℕ) → Gives f t → f ≡ file_in t
   -- "bytes not the table of any file": exactly these are refused by 9
   pub none_gives : (t : List ℕ) → (is_table t ≡ false) ↔ ((f : List ℕ) → Gives f t → ⊥)
-  pub refused : (t : List ℕ) (room : ℕ) → (decompile_refusal t room ≡ notATable) ↔ ((f : List ℕ) → Gives f t → ⊥)
+  pub refused : (t : List ℕ) (room : ℕ) → (decompile_refusal t room ≡ not_a_table) ↔ ((f : List ℕ) → Gives f t → ⊥)
   -- the two operations, one after the other
   pub files_back : FilesComeBack
   pub tables_back : TablesComeBack

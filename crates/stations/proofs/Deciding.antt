@@ -17,7 +17,7 @@ use Rattle.meaning.specs.Table.{operand_of, next_at, compiled}
 use Rattle.meaning.specs.Conditions.{Situation, outcome, reached, satisfied}
 use Rattle.meaning.specs.Record.{record_length}
 use Rattle.meaning.specs.Cycle.{begins_in, initial_marks_from, initial_marks, transition, applied, settled_from, situation, offered_goals, begun_into, offered_into}
-use Rattle.meaning.proofs.Computed.{compile, settle as settleCall}
+use Rattle.meaning.proofs.Computed.{compile, settle as settle_call}
 use Rattle.agreement.specs.Unfolding.{that, both, undecided, second, afresh, settle}
 use Rattle.stations.specs.Moments.{Says, cycle, operand}
 
@@ -88,7 +88,7 @@ pub record Worked : Type 0 where
   pub again_says : Says table again (1 ∷ 0 ∷ 1 ∷ 1 ∷ 1 ∷ 0 ∷ 0 ∷ 0 ∷ []) 0 102 (2 ∷ []) (1 ∷ 0 ∷ []) (100 ∷ 0 ∷ [])
 
 pub worked : Worked
-unfolding settleCall
+unfolding settle_call
 worked =
     record {
       begun_says = refl;

@@ -17,7 +17,7 @@ use Rattle.meaning.specs.Table.{operand_of, next_at, compiled}
 use Rattle.meaning.specs.Conditions.{Situation, outcome, violated}
 use Rattle.meaning.specs.Record.{record_length, last_time, estimate_in}
 use Rattle.meaning.specs.Cycle.{begins_in, initial_marks_from, initial_marks, breaks, checked_from, leaves_from, values_for, goal_bytes, transition, applied, settled_from, situation, begun_into, offered_into, settled_into}
-use Rattle.meaning.proofs.Computed.{compile, settle as settleCall}
+use Rattle.meaning.proofs.Computed.{compile, settle as settle_call}
 use Rattle.agreement.specs.Unfolding.{Rest, broken, holding, afresh, check, working, settle}
 use Rattle.stations.specs.Moments.{Says, cycle, operand}
 
@@ -141,7 +141,7 @@ pub record Worked : Type 0 where
   pub after_says : Says table after (1 ∷ 0 ∷ 0 ∷ 0 ∷ 0 ∷ 0 ∷ 1 ∷ []) 0 110 level (1 ∷ []) (100 ∷ [])
 
 pub worked : Worked
-unfolding settleCall
+unfolding settle_call
 worked =
     record {
       begun_says = refl;

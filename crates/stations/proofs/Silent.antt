@@ -14,7 +14,7 @@ use Rattle.meaning.specs.Table.{operand_of}
 use Rattle.meaning.specs.Conditions.{Situation, outcome}
 use Rattle.meaning.specs.Record.{last_time, estimate_in}
 use Rattle.meaning.specs.Cycle.{breaks, checked_from, transition, settled_from, situation, offered_into, settled_into}
-use Rattle.meaning.proofs.Computed.{settle as settleCall}
+use Rattle.meaning.proofs.Computed.{settle as settle_call}
 use Rattle.agreement.specs.Unfolding.{Rest, holding, broken, afresh, check, settle}
 use Rattle.stations.specs.Moments.{Says, cycle}
 use Rattle.stations.proofs.Doubtful.{table, tree, level, tilted, begun, at_wait}
@@ -64,7 +64,7 @@ pub record Worked : Type 0 where
   pub next_breaks : check (record { estimate = tilted; started = 1 ∷ []; starts = 100 ∷ []; time = 111 }) tree at_goal ≡ inl broken
 
 pub worked : Worked
-unfolding settleCall afresh check settle
+unfolding settle_call afresh check settle
 worked =
     record {
       before_says = refl;

@@ -4,7 +4,7 @@ use mathlib.Core.Path.{◌≡◌, refl}
 use mathlib.Core.Bool.{Bool, true}
 use mathlib.Core.List.{List}
 use Rattle.base.specs.Lists.{all}
-use Rattle.meaning.proofs.Computed.{settle as settleCall}
+use Rattle.meaning.proofs.Computed.{settle as settle_call}
 use Rattle.agreement.specs.Unfolding.{afresh, check, working, settle}
 use Rattle.agreement.specs.Runs.{tree_next, tree_reply, table_finishing, tree_finishing, lowest_at_work, start_each}
 use Rattle.stations.specs.Stations.{Station, stations, further, contested_stations, restarted_stations, silent_stations, same_reply, same_replies, by_table, by_tree, holds, all_hold}
@@ -12,7 +12,7 @@ use Rattle.stations.proofs.ByTree.{timely, all_hold_lem}
 
 -- to unfold this is to unfold all that a station is computed with
 unfoldable all_of : List Station → Bool
-unfolding lowest_at_work start_each table_finishing tree_finishing same_reply same_replies by_table by_tree holds settleCall afresh check working settle tree_next tree_reply
+unfolding lowest_at_work start_each table_finishing tree_finishing same_reply same_replies by_table by_tree holds settle_call afresh check working settle tree_next tree_reply
 all_of xs = all holds xs
 
 ten_hold : all_of stations ≡ true

@@ -10,7 +10,7 @@ use Rattle.meaning.specs.Program.{variables, clocks, tree_of, program_refusal}
 use Rattle.meaning.specs.Table.{compiled}
 use Rattle.meaning.specs.Record.{record_length, started_in, starts_in, estimate_byte_allowed}
 use Rattle.meaning.specs.Cycle.{no_goal, contested, begin_refusal, begun_into}
-use Rattle.meaning.specs.Answers.{tooDeep, bufferTooShort, wrongPhase, timeBeforeLast, estimateNotAllowed, runFinished, noVariable}
+use Rattle.meaning.specs.Answers.{too_deep, buffer_too_short, wrong_phase, time_before_last, estimate_not_allowed, run_finished, no_variable}
 use Rattle.agreement.specs.Runs.{Call, offer, settling, Reply, refused, goals, running, done, table_replies, table_after, begin, tree_replies, tree_after, table_finishing, tree_finishing}
 
 -- A station: the program file, what compiling answers (0, or its refusal), the first estimate, the calls, their replies, the finishing cycle,
@@ -38,7 +38,7 @@ with_estimate e = settling (e ∷ [])
 
 -- the goal byte that an offer gives where nothing is contested, and where the one variable is
 abbrev pub goal_is : ℕ → Reply
-goal_is g = goals (g ∷ []) noVariable
+goal_is g = goals (g ∷ []) no_variable
 
 abbrev pub contested_is : Reply
 contested_is = goals (contested ∷ []) 0
@@ -100,7 +100,7 @@ stations =
     ∷ starting_station starts2 (at 10 ∷ with_estimate 0 ∷ at 20 ∷ with_estimate 0 ∷ []) (goal_is 255 ∷ running ∷ goal_is 255 ∷ done ∷ []) (some 2) 20
     ∷ starting_station waits (at 100 ∷ with_estimate 0 ∷ at 109 ∷ with_estimate 0 ∷ at 110 ∷ with_estimate 0 ∷ []) (goal_is 255 ∷ running ∷ goal_is 255 ∷ running ∷ goal_is 255 ∷ done ∷ []) (some 3) 100
     ∷ station (repeats 15) 0 (at 0 ∷ []) (goal_is 1 ∷ []) none
-    ∷ refused_station (repeats 16) tooDeep
+    ∷ refused_station (repeats 16) too_deep
     ∷ []
 
 -- What no station tries: WAIT 0=1, SEQ(START 0, WAIT clock 0 below 5) on either side of its bound, and refused calls, which change nothing:
@@ -117,8 +117,8 @@ further =
     station waits_value 0 (at 0 ∷ with_estimate 0 ∷ at 0 ∷ with_estimate 1 ∷ []) (goal_is 255 ∷ running ∷ goal_is 255 ∷ done ∷ []) (some 2)
     ∷ starting_station waits_below (at 10 ∷ with_estimate 0 ∷ at 15 ∷ with_estimate 0 ∷ []) (goal_is 255 ∷ running ∷ goal_is 255 ∷ running ∷ []) none 10
     ∷ starting_station waits_below (at 10 ∷ with_estimate 0 ∷ at 14 ∷ with_estimate 0 ∷ []) (goal_is 255 ∷ running ∷ goal_is 255 ∷ done ∷ []) (some 2) 10
-    ∷ station goal1 0 (with_estimate 0 ∷ at 5 ∷ with_estimate 251 ∷ settling (0 ∷ 0 ∷ []) ∷ at 5 ∷ with_estimate 0 ∷ []) (refused wrongPhase ∷ goal_is 1 ∷ refused estimateNotAllowed ∷ refused estimateNotAllowed ∷ refused wrongPhase ∷ running ∷ []) none
-    ∷ station goal1 0 (at 5 ∷ with_estimate 0 ∷ at 4 ∷ offer 5 [] ∷ at 5 ∷ with_estimate 1 ∷ at 6 ∷ with_estimate 1 ∷ []) (goal_is 1 ∷ running ∷ refused timeBeforeLast ∷ refused bufferTooShort ∷ goal_is 1 ∷ done ∷ refused runFinished ∷ refused runFinished ∷ []) (some 2)
+    ∷ station goal1 0 (with_estimate 0 ∷ at 5 ∷ with_estimate 251 ∷ settling (0 ∷ 0 ∷ []) ∷ at 5 ∷ with_estimate 0 ∷ []) (refused wrong_phase ∷ goal_is 1 ∷ refused estimate_not_allowed ∷ refused estimate_not_allowed ∷ refused wrong_phase ∷ running ∷ []) none
+    ∷ station goal1 0 (at 5 ∷ with_estimate 0 ∷ at 4 ∷ offer 5 [] ∷ at 5 ∷ with_estimate 1 ∷ at 6 ∷ with_estimate 1 ∷ []) (goal_is 1 ∷ running ∷ refused time_before_last ∷ refused buffer_too_short ∷ goal_is 1 ∷ done ∷ refused run_finished ∷ refused run_finished ∷ []) (some 2)
     ∷ []
 
 -- "The offer now names the lowest-numbered contested variable" (document 02, R-1). PAR(GOAL 2=1, GOAL 2=2, GOAL 1=1, GOAL 1=2, GOAL 1=1, GOAL 0=5):
@@ -152,7 +152,7 @@ unfoldable pub contested_stations : List Station
 contested_stations =
     clockless_station three_variables (0 ∷ 0 ∷ 0 ∷ [])
     (offer 0 (replicate 3 7) ∷ settling (0 ∷ 2 ∷ 0 ∷ []) ∷ offer 0 (replicate 3 7) ∷ settling (0 ∷ 2 ∷ 1 ∷ []) ∷ offer 0 (replicate 3 7) ∷ [])
-    (goals (5 ∷ contested ∷ contested ∷ []) 1 ∷ running ∷ goals (5 ∷ 1 ∷ contested ∷ []) 2 ∷ running ∷ goals (5 ∷ 1 ∷ 2 ∷ []) noVariable ∷ [])
+    (goals (5 ∷ contested ∷ contested ∷ []) 1 ∷ running ∷ goals (5 ∷ 1 ∷ contested ∷ []) 2 ∷ running ∷ goals (5 ∷ 1 ∷ 2 ∷ []) no_variable ∷ [])
     ∷ clockless_station first_and_last (replicate 32 0)
     (offer 0 (replicate 32 7) ∷ settling (1 ∷ replicate 31 0) ∷ offer 0 (replicate 32 7) ∷ [])
     (goals (contested ∷ replicate 30 no_goal ++ (contested ∷ [])) 0 ∷ running ∷ goals (2 ∷ replicate 30 no_goal ++ (contested ∷ [])) 31 ∷ [])
@@ -244,7 +244,7 @@ silent_stations =
     ∷ station (decides_by 2) 0 (at 0 ∷ with_estimate unknown_value ∷ at 0 ∷ []) (goal_is no_goal ∷ running ∷ goal_is 2 ∷ []) none
     ∷ silent_coring 2 (at 112 ∷ with_estimate unknown_value ∷ at 113 ∷ []) (goal_is no_goal ∷ running ∷ goal_is 1 ∷ [])
     ∷ silent_coring 3 (at 112 ∷ []) (goal_is 1 ∷ [])
-    ∷ station goal1 0 (at 0 ∷ with_estimate 251 ∷ with_estimate 254 ∷ with_estimate unknown_value ∷ []) (goal_is 1 ∷ refused estimateNotAllowed ∷ refused estimateNotAllowed ∷ running ∷ []) none
+    ∷ station goal1 0 (at 0 ∷ with_estimate 251 ∷ with_estimate 254 ∷ with_estimate unknown_value ∷ []) (goal_is 1 ∷ refused estimate_not_allowed ∷ refused estimate_not_allowed ∷ running ∷ []) none
     ∷ []
 
 -- Station 10: "The file .. and its table below"

@@ -20,8 +20,8 @@ use Rattle.meaning.specs.declared.Entry.{Entry}
 use Rattle.meaning.specs.Sizes.{max_parts, max_variables, max_clocks, length_of, no_part, header_length}
 use Rattle.meaning.specs.Tree.{size}
 use Rattle.meaning.specs.Program.{sizes_in_range, size_bytes, arrays, parts, variables, clocks, entries, entry_known, entry_allowed, sizes_allowed, preorder, file_of, program_refusal}
-use Rattle.meaning.specs.Answers.{answerNumber, bufferTooShort, notAText, sizeOutOfRange, operandNotAllowed}
-use Rattle.meaning.proofs.Answers.{not-refused, refusal-positive}
+use Rattle.meaning.specs.Answers.{answer_number, buffer_too_short, not_a_text, size_out_of_range, operand_not_allowed}
+use Rattle.meaning.proofs.Answers.{not_refused, refusal_positive}
 use Rattle.meaning.proofs.Files.{all_preorder, known_entry, parts_back, file_entries, length_arrays}
 use Rattle.meaning.proofs.Trees.{length_preorder}
 use Rattle.text_grammar.specs.Syntax.{Text}
@@ -54,9 +54,9 @@ module _ (f out : List ℕ) where
   refused_first n h e = written_by n out (rw (← e, ne_eqb n 0 h)) (rw (ne_eqb n 0 h))
 
   module _ (h : program_refusal File f ≡ 0) where
-    short_after : length out < length f → Written f out bufferTooShort out
+    short_after : length out < length f → Written f out buffer_too_short out
     unfolding packed_refusal
-    short_after l = written_by bufferTooShort out (rw (h, lt-leb (length f) (length out) l)) refl
+    short_after l = written_by buffer_too_short out (rw (h, lt-leb (length f) (length out) l)) refl
 
     done_after : (out' : List ℕ) → length f ≤ length out → out' ≡ sets out 0 f → Written f out 0 out'
     unfolding packed_refusal
@@ -70,17 +70,17 @@ module _ (b out : List ℕ) (n : ℕ) (fits : n ≤ length b) where
   pub taken_long : n ≡ length (take n b)
   taken_long = sym taken
 
-  module _ (a : Answer) (e : answerNumber a ≡ program_refusal File (take n b)) where
-    pub checked_refused : (r : Refusal) → a ≡ Refused r → Written (take n b) out (answerNumber a) out
-    checked_refused r h = refused_first (take n b) out (answerNumber a) (λ z. refusal-positive r (sym (ap answerNumber h) ∙ z)) e
+  module _ (a : Answer) (e : answer_number a ≡ program_refusal File (take n b)) where
+    pub checked_refused : (r : Refusal) → a ≡ Refused r → Written (take n b) out (answer_number a) out
+    checked_refused r h = refused_first (take n b) out (answer_number a) (λ z. refusal_positive r (sym (ap answer_number h) ∙ z)) e
 
     module _ (h : a ≡ Done) where
-      pub checked_short : length out < n → Written (take n b) out bufferTooShort out
-      checked_short l = short_after (take n b) out (not-refused _ _ e h) (omega (arith, taken))
+      pub checked_short : length out < n → Written (take n b) out buffer_too_short out
+      checked_short l = short_after (take n b) out (not_refused _ _ e h) (omega (arith, taken))
 
       pub checked_done : (out' : List ℕ) → n ≤ length out → out' ≡ sets out 0 (bytes_at (take n b) 0 n) → Written (take n b) out 0 out'
       checked_done out' l w =
-          done_after (take n b) out (not-refused _ _ e h) out' (omega (arith, taken))
+          done_after (take n b) out (not_refused _ _ e h) out' (omega (arith, taken))
           (w ∙ ap (λ (k : ℕ). sets out 0 (bytes_at (take n b) 0 k)) (sym taken) ∙ ap (sets out 0) (bytes_all (take n b)))
 
 -- `write_program`
@@ -127,16 +127,16 @@ module _ (t out : List ℕ) where
   unfolding assembled_into
   answered_by n h e = record { answer_is = e; buffer_is = rw (← e, ne_eqb n 0 h) }
 
-  no_reading : reading t ≡ none → Assembled t out notAText out
+  no_reading : reading t ≡ none → Assembled t out not_a_text out
   unfolding assemble_refusal refusal_of
-  no_reading h = answered_by notAText (λ e. omega arith) (rw h)
+  no_reading h = answered_by not_a_text (λ e. omega arith) (rw h)
 
-  pub text_too_long : max_text_length < length t → Assembled t out notAText out
+  pub text_too_long : max_text_length < length t → Assembled t out not_a_text out
   unfolding reading
   text_too_long h = no_reading (rw (lt-leb (length t) max_text_length h))
 
   module _ (short : length t ≤ max_text_length) (z : List ℕ) (r : Reading) (b : List ℕ) (d : ReadsText t z r b (parse_text (tokens t))) where
-    pub text_not_read : (p : ℕ) → r ≡ Stops p → Assembled t out notAText out
+    pub text_not_read : (p : ℕ) → r ≡ Stops p → Assembled t out not_a_text out
     text_not_read p h = no_reading (read_as t short ∙ not_whole t z r b (parse_text (tokens t)) p d h)
 
     module _ (n v k : ℕ) (h : r ≡ Program n v k) where
@@ -152,9 +152,9 @@ module _ (t out : List ℕ) where
       sizes_are : sizes_in_range (size (body_tree s.text.body)) s.text.variables s.text.clocks ≡ sizes_in_range n v k
       sizes_are = rw (size_is, s.variables_are, s.clocks_are)
 
-      pub sizes_refused : (c : Bool) → c ≡ sizes_in_range n v k → not c ≡ true → Assembled t out sizeOutOfRange out
+      pub sizes_refused : (c : Bool) → c ≡ sizes_in_range n v k → not c ≡ true → Assembled t out size_out_of_range out
       unfolding assemble_refusal refusal_of
-      sizes_refused c e w = answered_by sizeOutOfRange (λ x. omega arith) (rw (reading_is, sizes_are ∙ sym e ∙ not-true c w))
+      sizes_refused c e w = answered_by size_out_of_range (λ x. omega arith) (rw (reading_is, sizes_are ∙ sym e ∙ not-true c w))
 
 -- within the ranges
 pub sizes_small : (n v k : ℕ) (c : Bool) → c ≡ sizes_in_range n v k → not c ≡ false → (n ≤ max_parts) × (v ≤ max_variables) × (k ≤ max_clocks)
@@ -175,14 +175,14 @@ all_known_lem [] h = refl
 all_known_lem (e ∷ es) h = rw (known_clamped e, and_left (entry_known e) (all entry_known es) h, all_known_lem es (and_right (entry_known e) (all entry_known es) h))
 
 unfit : (f : List ℕ) (n v k : ℕ) (es : List Entry) → length f ≡ length_of File n → parts f ≡ n → variables f ≡ v → clocks f ≡ k → entries File f ≡ es
-    → sizes_in_range n v k ≡ true → all entry_known es ≡ true → all (entry_allowed v k) es ≡ false → program_refusal File f ≡ operandNotAllowed
+    → sizes_in_range n v k ≡ true → all entry_known es ≡ true → all (entry_allowed v k) es ≡ false → program_refusal File f ≡ operand_not_allowed
 unfolding program_refusal sizes_allowed
 unfit f n v k es long p vs ks entries_are range known allowed =
     let fits : leb header_length (length f) ≡ true = le-leb header_length (length f) (omega (arith, long)) in
     let whole : eqb (length f) (length_of File (parts f)) ≡ true = eq-eqb (length f) (length_of File (parts f)) (long ∙ ap (length_of File) (sym p)) in
     rw (fits, whole, p, vs, ks, range, entries_are, known, allowed)
 
-unfit_operands : (n v k : ℕ) (es : List Entry) → length es ≡ n → n ≤ no_part → sizes_in_range n v k ≡ true → all entry_known es ≡ true → all (entry_allowed v k) es ≡ false → program_refusal File (size_bytes n v k ++ arrays es) ≡ operandNotAllowed
+unfit_operands : (n v k : ℕ) (es : List Entry) → length es ≡ n → n ≤ no_part → sizes_in_range n v k ≡ true → all entry_known es ≡ true → all (entry_allowed v k) es ≡ false → program_refusal File (size_bytes n v k ++ arrays es) ≡ operand_not_allowed
 unfit_operands n v k es l h range known allowed =
     let p : parts (size_bytes n v k ++ arrays es) ≡ n = parts_back n v k (arrays es) h in
     let d : Entry = record { kind = 0; operand = record { b0 = 0; b1 = 0; b2 = 0; b3 = 0 } } in
@@ -198,27 +198,27 @@ module _ (x : Text) (b : List ℕ) (n v k : ℕ) (vs : x.variables ≡ v) (ks : 
   unfolding packed_file text_file file_of
   same_file a = rw (vs, ks, ns, es-are, unclamped v k (omega arith) (omega arith) es a (counts_fit (body_tree x.body) (omega (arith, ns))))
 
-  packed_unfit : all (entry_allowed v k) es ≡ false → program_refusal File (packed_file b n v k) ≡ operandNotAllowed
+  packed_unfit : all (entry_allowed v k) es ≡ false → program_refusal File (packed_file b n v k) ≡ operand_not_allowed
   unfolding packed_file
   packed_unfit a =
       unfit_operands n v k (packed_entries b n) (packed_length b n) (omega arith) range (ap (all entry_known) es-are ∙ all_known_lem es (all_preorder entry_known known_entry (body_tree x.body)))
       (ap (all (entry_allowed v k)) es-are ∙ all_clamped v k (omega arith) (omega arith) es ∙ a)
 
-  text_unfit : all (entry_allowed v k) es ≡ false → program_refusal File (text_file x) ≡ operandNotAllowed
+  text_unfit : all (entry_allowed v k) es ≡ false → program_refusal File (text_file x) ≡ operand_not_allowed
   text_unfit a = sym (as_for_files x (omega (arith, ns))) ∙ rw (vs, ks, ns, range, a)
 
   same_refusal : (room : ℕ) → (all (entry_allowed v k) es ≡ false) → packed_refusal (packed_file b n v k) room ≡ packed_refusal (text_file x) room
   unfolding packed_refusal
   same_refusal room a = rw (packed_unfit a, text_unfit a)
 
-  text_refused : (room : ℕ) → all (entry_allowed v k) es ≡ false → packed_refusal (text_file x) room ≡ operandNotAllowed
+  text_refused : (room : ℕ) → all (entry_allowed v k) es ≡ false → packed_refusal (text_file x) room ≡ operand_not_allowed
   unfolding packed_refusal
   text_refused room a = rw (text_unfit a)
 
   -- "then 2, 5, 7 and 8": the refusals of the file, then that of the buffer
   refusal_is : (room : ℕ) → first_failing (assemble_tests x room) ≡ packed_refusal (text_file x) room
   unfolding packed_refusal
-  refusal_is room = fails_append (text_tests x) ((bufferTooShort, leb (length (text_file x)) room) ∷ []) refl ∙ rw (as_for_files x (omega (arith, ns)))
+  refusal_is room = fails_append (text_tests x) ((buffer_too_short, leb (length (text_file x)) room) ∷ []) refl ∙ rw (as_for_files x (omega (arith, ns)))
 
   packed_as_text : (out : List ℕ) (r : ℕ) (out' : List ℕ) → Written (packed_file b n v k) out r out' → (r ≡ packed_refusal (text_file x) (length out)) × (out' ≡ cond (eqb (packed_refusal (text_file x) (length out)) 0) (sets out 0 (text_file x)) out)
   packed_as_text out r out' w = go (all (entry_allowed v k) es) refl

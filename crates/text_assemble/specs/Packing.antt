@@ -6,7 +6,7 @@ use Rattle.meaning.specs.declared.Entry.{Entry}
 use Rattle.meaning.specs.declared.Form.TheVariants.{File}
 use Rattle.meaning.specs.Sizes.{kind_length}
 use Rattle.meaning.specs.Program.{operand_at, size_bytes, arrays, program_refusal}
-use Rattle.meaning.specs.Answers.{bufferTooShort}
+use Rattle.meaning.specs.Answers.{buffer_too_short}
 use Rattle.text_parts.specs.Stored.{part_length}
 
 -- the entry of part p in the buffer, and those of the first n parts
@@ -21,7 +21,7 @@ packed_file b n v k = size_bytes n v k ++ arrays (packed_entries b n)
 
 -- the refusal of writing that file: its own, then 8
 unfoldable pub packed_refusal : List ℕ → ℕ → ℕ
-packed_refusal f room = cond (eqb (program_refusal File f) 0) (cond (leb (length f) room) 0 bufferTooShort) (program_refusal File f)
+packed_refusal f room = cond (eqb (program_refusal File f) 0) (cond (leb (length f) room) 0 buffer_too_short) (program_refusal File f)
 
 -- Writing a file f, or refusing to
 pub record Written (f out : List ℕ) (answer : ℕ) (out' : List ℕ) : Type 0 where

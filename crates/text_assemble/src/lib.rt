@@ -5,7 +5,7 @@ pub mod packing;
 ghost use Rattle.std.specs.Prelude.{◌≡◌, ◌*◌, ◌≤◌, length, take};
 ghost use Rattle.meaning.specs.Sizes.{max_parts};
 ghost use Rattle.meaning.specs.Program.{sizes_in_range};
-ghost use Rattle.meaning.specs.Answers.{answerNumber};
+ghost use Rattle.meaning.specs.Answers.{answer_number};
 ghost use Rattle.text_grammar.specs.Assembling.{Assembled};
 ghost use Rattle.text_stops.specs.Places.{stop_place};
 ghost use Rattle.text_parts.specs.Stored.{part_length};
@@ -39,7 +39,7 @@ fn sizes_in_range(n: u16, v: u16, k: u16) -> bool
 
 // Assembles a text into its program file: refusal 16, then 2, 5, 7 and 8.
 pub fn assemble(text: &[u8], file: &mut [u8]) -> Answer
-    ensures { Assembled text.now file.old (answerNumber result) file.new }
+    ensures { Assembled text.now file.old (answer_number result) file.new }
 {
     if MAX_TEXT < text.len() {
         return Answer::Refused(Refusal::NotAText);
@@ -59,7 +59,7 @@ pub fn assemble(text: &[u8], file: &mut [u8]) -> Answer
 fn write_program(parts: &[u8], n: u8, v: u8, k: u8, file: &mut [u8]) -> Answer
     requires n_le_max_parts { n ≤ max_parts }
     requires n_in_bounds { part_length * n ≤ length parts.now }
-    ensures { Written (packed_file parts.now n v k) file.old (answerNumber result) file.new }
+    ensures { Written (packed_file parts.now n v k) file.old (answer_number result) file.new }
 {
     let mut whole = [0u8; MAX_FILE];
     pack(parts, n, v, k, &mut whole);
@@ -69,7 +69,7 @@ fn write_program(parts: &[u8], n: u8, v: u8, k: u8, file: &mut [u8]) -> Answer
 // Writes a program that is the first `size` bytes of a buffer, if it is a program file: its refusals, then 8.
 fn write_checked(whole: &[u8], size: usize, file: &mut [u8]) -> Answer
     requires { size ≤ length whole.now }
-    ensures { Written (take size whole.now) file.old (answerNumber result) file.new }
+    ensures { Written (take size whole.now) file.old (answer_number result) file.new }
 {
     let program = &whole[..size];
     let answer = program_refusal(program);

@@ -15,7 +15,7 @@ use Rattle.meaning.specs.declared.Form.TheVariants.{File}
 use Rattle.meaning.specs.Sizes.{max_parts, max_depth, no_part, header_length, length_of}
 use Rattle.meaning.specs.Tree.{Part, size, depth}
 use Rattle.meaning.specs.Program.{parts, variables, clocks, sizes_in_range, sizes_allowed, entries, entry_known, entry_allowed, preorder, tree_of, program_refusal, file_of}
-use Rattle.meaning.specs.Answers.{sizeOutOfRange, operandNotAllowed, tooDeep, bufferTooShort, notAText}
+use Rattle.meaning.specs.Answers.{size_out_of_range, operand_not_allowed, too_deep, buffer_too_short, not_a_text}
 use Rattle.meaning.proofs.Parsing.{trees_alone}
 use Rattle.meaning.proofs.Files.{accepted, all_preorder, known_entry, file_length, file_parts, file_preorder}
 use Rattle.meaning.proofs.Refusals.{front_written}
@@ -91,7 +91,7 @@ module _ (x : Text) (room : ℕ) where
 
   tests_passed : program_refusal File (text_file x) ≡ 0 → length (text_file x) ≤ room → first_failing (assemble_tests x room) ≡ 0
   tests_passed h l =
-      rw (fails_append (text_tests x) ((bufferTooShort, leb (length (text_file x)) room) ∷ []) refl, as_for_files x (few_enough x h), h, le-leb (length (text_file x)) room l)
+      rw (fails_append (text_tests x) ((buffer_too_short, leb (length (text_file x)) room) ∷ []) refl, as_for_files x (few_enough x h), h, le-leb (length (text_file x)) room l)
 
 -- "A text is accepted exactly when it fits this grammar and its file is accepted"
 pub text_accepted : (t : List ℕ) (room : ℕ) → (assemble_refusal t room ≡ 0) ↔ ((x : Text) × Fits t x × (program_refusal File (text_file x) ≡ 0) × (length (text_file x) ≤ room))
@@ -107,13 +107,13 @@ text_accepted t room = (
 
 -- "Refused: 16 for a text outside the grammar or too long, given first; then 2, 5, 7 and 8": no other answer comes
 abbrev pub answers : List ℕ
-answers = 0 ∷ notAText ∷ sizeOutOfRange ∷ operandNotAllowed ∷ tooDeep ∷ bufferTooShort ∷ []
+answers = 0 ∷ not_a_text ∷ size_out_of_range ∷ operand_not_allowed ∷ too_deep ∷ buffer_too_short ∷ []
 
 pub text_refusals : (t : List ℕ) (room : ℕ) → any (eqb (assemble_refusal t room)) answers ≡ true
 unfolding assemble_refusal refusal_of
 text_refusals t room = of (reading t)
   where
-    first : (a b c d : Bool) → any (eqb (first_failing ((sizeOutOfRange, a) ∷ (operandNotAllowed, b) ∷ (tooDeep, c) ∷ (bufferTooShort, d) ∷ []))) answers ≡ true
+    first : (a b c d : Bool) → any (eqb (first_failing ((size_out_of_range, a) ∷ (operand_not_allowed, b) ∷ (too_deep, c) ∷ (buffer_too_short, d) ∷ []))) answers ≡ true
     first false b c d = refl
     first true false c d = refl
     first true true false d = refl

@@ -9,8 +9,8 @@ use lib.Dec.{leb}
 use lib.ListN.{length}
 use native.Mathlib.Omega.{arith}
 use borrow.Author.Tests.{leb-true, le-leb}
-use Rattle.text_grammar.specs.Tokens.{thenWord, elseWord, semicolon, comma, closing, Token, mark, unknown, is_known, Spelled}
-use Rattle.text_grammar.specs.Syntax.{Condition, variableEquals, variableDiffers, clockAtLeast, clockBelow, Step, goal_step, start_step, wait_step, maintain_step, repeat_step, if_step, bracketed, Sequence, one_step, more_steps, Body, one_sequence, more_sequences, Text, write_condition, write_step, write_sequence, write_body, write_text}
+use Rattle.text_grammar.specs.Tokens.{then_word, else_word, semicolon, comma, closing, Token, mark, unknown, is_known, Spelled}
+use Rattle.text_grammar.specs.Syntax.{Condition, variable_equals, variable_differs, clock_at_least, clock_below, Step, goal_step, start_step, wait_step, maintain_step, repeat_step, if_step, bracketed, Sequence, one_step, more_steps, Body, one_sequence, more_sequences, Text, write_condition, write_step, write_sequence, write_body, write_text}
 use Rattle.text_grammar.specs.Texts.{max_text_length, Fits}
 use Rattle.text_grammar.specs.Lexer.{tokens}
 use Rattle.text_grammar.specs.Parser.{Parsed, got, stopped, parse_text, whole, reading}
@@ -21,10 +21,10 @@ use Rattle.text_grammar.proofs.Complete.{text_read_lem}
 -- nothing is written with an unknown token
 condition_known : (o : Condition) (rest : List Token) → all_known (write_condition o rest) ≡ all_known rest
 unfolding write_condition all_known is_known
-condition_known (variableEquals v n) rest = refl
-condition_known (variableDiffers v n) rest = refl
-condition_known (clockAtLeast c n) rest = refl
-condition_known (clockBelow c n) rest = refl
+condition_known (variable_equals v n) rest = refl
+condition_known (variable_differs v n) rest = refl
+condition_known (clock_at_least c n) rest = refl
+condition_known (clock_below c n) rest = refl
 
 mutual
   unfolding write_step write_sequence write_body all_known is_known
@@ -36,7 +36,7 @@ mutual
   step_known (maintain_step o s) rest = condition_known o (write_step s rest) ∙ step_known s rest
   step_known (repeat_step s) rest = step_known s rest
   step_known (if_step o s u) rest =
-      condition_known o (mark thenWord ∷ write_step s (mark elseWord ∷ write_step u rest)) ∙ step_known s (mark elseWord ∷ write_step u rest) ∙ step_known u rest
+      condition_known o (mark then_word ∷ write_step s (mark else_word ∷ write_step u rest)) ∙ step_known s (mark else_word ∷ write_step u rest) ∙ step_known u rest
   step_known (bracketed b) rest = body_known b (mark closing ∷ rest)
 
   sequence_known : (q : Sequence) (rest : List Token) → all_known (write_sequence q rest) ≡ all_known rest

@@ -9,7 +9,7 @@ use Rattle.base.specs.Lists.{concat, tabulate, flag}
 use Rattle.meaning.specs.Program.{preorder, file_of}
 use Rattle.meaning.proofs.Computed.{◌gets◌, Holds, read}
 use Rattle.text_grammar.specs.Characters.{bytes, is_blank, is_digit, is_word_byte}
-use Rattle.text_grammar.specs.Tokens.{Mark, startWord, waitWord, maintainWord, repeatWord, ifWord, thenWord, elseWord, equalSign, differsSign, atLeastSign, belowSign, semicolon, comma, opening, closing, colon, Token, mark, number, variable, clock, unknown, spelling, decimal_from, leading_zero, is_number, named_token, token_among, token_of}
+use Rattle.text_grammar.specs.Tokens.{Mark, start_word, wait_word, maintain_word, repeat_word, if_word, then_word, else_word, equal_sign, differs_sign, at_least_sign, below_sign, semicolon, comma, opening, closing, colon, Token, mark, number, variable, clock, unknown, spelling, decimal_from, leading_zero, is_number, named_token, token_among, token_of}
 use Rattle.text_grammar.specs.Trees.{test_number, condition_operand, step_tree, sequence_tree, step_trees, body_tree, sequence_trees, text_file}
 use Rattle.text_grammar.specs.Lexer.{joins, end_run, begin_run, tokens_after, tokens}
 use Rattle.text_grammar.specs.Parser.{bind, on_mark, parse_number, parse_clock, parse_value, parse_condition, sequence_rest, body_rest, close_group, parse_branches, step_within, sequence_within, body_within, parse_body, end_text, parse_text, whole, reading}
@@ -256,17 +256,17 @@ abbrev spelled : Mark → List ℕ × Token
 spelled m = (spelling m, token_of (spelling m))
 
 pub spellings : Holds
-    (spelled startWord gets (0x73 ∷ 0x74 ∷ 0x61 ∷ 0x72 ∷ 0x74 ∷ [], mark startWord)
-    ∷ spelled waitWord gets (0x77 ∷ 0x61 ∷ 0x69 ∷ 0x74 ∷ [], mark waitWord)
-    ∷ spelled maintainWord gets (0x6D ∷ 0x61 ∷ 0x69 ∷ 0x6E ∷ 0x74 ∷ 0x61 ∷ 0x69 ∷ 0x6E ∷ [], mark maintainWord)
-    ∷ spelled repeatWord gets (0x72 ∷ 0x65 ∷ 0x70 ∷ 0x65 ∷ 0x61 ∷ 0x74 ∷ [], mark repeatWord)
-    ∷ spelled ifWord gets (0x69 ∷ 0x66 ∷ [], mark ifWord)
-    ∷ spelled thenWord gets (0x74 ∷ 0x68 ∷ 0x65 ∷ 0x6E ∷ [], mark thenWord)
-    ∷ spelled elseWord gets (0x65 ∷ 0x6C ∷ 0x73 ∷ 0x65 ∷ [], mark elseWord)
-    ∷ spelled equalSign gets (0x3D ∷ [], mark equalSign)
-    ∷ spelled differsSign gets (0x21 ∷ 0x3D ∷ [], mark differsSign)
-    ∷ spelled atLeastSign gets (0x3E ∷ 0x3D ∷ [], mark atLeastSign)
-    ∷ spelled belowSign gets (0x3C ∷ [], mark belowSign)
+    (spelled start_word gets (0x73 ∷ 0x74 ∷ 0x61 ∷ 0x72 ∷ 0x74 ∷ [], mark start_word)
+    ∷ spelled wait_word gets (0x77 ∷ 0x61 ∷ 0x69 ∷ 0x74 ∷ [], mark wait_word)
+    ∷ spelled maintain_word gets (0x6D ∷ 0x61 ∷ 0x69 ∷ 0x6E ∷ 0x74 ∷ 0x61 ∷ 0x69 ∷ 0x6E ∷ [], mark maintain_word)
+    ∷ spelled repeat_word gets (0x72 ∷ 0x65 ∷ 0x70 ∷ 0x65 ∷ 0x61 ∷ 0x74 ∷ [], mark repeat_word)
+    ∷ spelled if_word gets (0x69 ∷ 0x66 ∷ [], mark if_word)
+    ∷ spelled then_word gets (0x74 ∷ 0x68 ∷ 0x65 ∷ 0x6E ∷ [], mark then_word)
+    ∷ spelled else_word gets (0x65 ∷ 0x6C ∷ 0x73 ∷ 0x65 ∷ [], mark else_word)
+    ∷ spelled equal_sign gets (0x3D ∷ [], mark equal_sign)
+    ∷ spelled differs_sign gets (0x21 ∷ 0x3D ∷ [], mark differs_sign)
+    ∷ spelled at_least_sign gets (0x3E ∷ 0x3D ∷ [], mark at_least_sign)
+    ∷ spelled below_sign gets (0x3C ∷ [], mark below_sign)
     ∷ spelled semicolon gets (0x3B ∷ [], mark semicolon)
     ∷ spelled comma gets (0x2C ∷ [], mark comma)
     ∷ spelled opening gets (0x28 ∷ [], mark opening)

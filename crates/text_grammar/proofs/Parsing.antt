@@ -5,18 +5,18 @@ use mathlib.Core.Bool.{Bool, true, false, false≢true}
 use mathlib.Core.List.{List, [], ◌∷◌}
 use lib.ListN.{length}
 use native.Mathlib.Omega.{arith}
-use Rattle.text_grammar.specs.Tokens.{Mark, mark-discrete, startWord, waitWord, maintainWord, repeatWord, ifWord, thenWord, elseWord, equalSign, differsSign, atLeastSign, belowSign, semicolon, comma, opening, closing, colon, Token, mark, number, variable, clock, unknown}
-use Rattle.text_grammar.specs.Syntax.{Condition, variableEquals, variableDiffers, clockAtLeast, clockBelow, Step, goal_step, start_step, wait_step, maintain_step, repeat_step, if_step, bracketed, Sequence, one_step, more_steps, Body, one_sequence, more_sequences, write_condition, write_step, write_sequence, write_body}
+use Rattle.text_grammar.specs.Tokens.{Mark, mark-discrete, start_word, wait_word, maintain_word, repeat_word, if_word, then_word, else_word, equal_sign, differs_sign, at_least_sign, below_sign, semicolon, comma, opening, closing, colon, Token, mark, number, variable, clock, unknown}
+use Rattle.text_grammar.specs.Syntax.{Condition, variable_equals, variable_differs, clock_at_least, clock_below, Step, goal_step, start_step, wait_step, maintain_step, repeat_step, if_step, bracketed, Sequence, one_step, more_steps, Body, one_sequence, more_sequences, write_condition, write_step, write_sequence, write_body}
 use Rattle.text_grammar.specs.Parser.{Parsed, got, stopped, bind, when, on_mark, expect, parse_clock, parse_value, parse_condition, sequence_rest, body_rest, close_group, parse_branches, step_within, sequence_within, body_within, calls_for, parse_step, parse_sequence, parse_body}
 use Rattle.text_grammar.proofs.Sound.{Written, condition_written, step_written, sequence_written}
 
 -- a form has tokens of its own
 condition_longer : (o : Condition) (rest : List Token) → length rest < length (write_condition o rest)
 unfolding write_condition
-condition_longer (variableEquals v n) rest = omega arith
-condition_longer (variableDiffers v n) rest = omega arith
-condition_longer (clockAtLeast c n) rest = omega arith
-condition_longer (clockBelow c n) rest = omega arith
+condition_longer (variable_equals v n) rest = omega arith
+condition_longer (variable_differs v n) rest = omega arith
+condition_longer (clock_at_least c n) rest = omega arith
+condition_longer (clock_below c n) rest = omega arith
 
 mutual
   unfolding write_step write_sequence write_body
@@ -28,7 +28,7 @@ mutual
   step_longer (maintain_step o s) rest = omega (arith, condition_longer o (write_step s rest), step_longer s rest)
   step_longer (repeat_step s) rest = omega (arith, step_longer s rest)
   step_longer (if_step o s u) rest =
-      omega (arith, condition_longer o (mark thenWord ∷ write_step s (mark elseWord ∷ write_step u rest)), step_longer s (mark elseWord ∷ write_step u rest), step_longer u rest)
+      omega (arith, condition_longer o (mark then_word ∷ write_step s (mark else_word ∷ write_step u rest)), step_longer s (mark else_word ∷ write_step u rest), step_longer u rest)
   step_longer (bracketed b) rest = omega (arith, body_longer b (mark closing ∷ rest))
 
   sequence_longer : (q : Sequence) (rest : List Token) → length rest < length (write_sequence q rest)
@@ -82,11 +82,11 @@ module _ (p q : List Token → Parsed Step) (n : ℕ) (same : Agree n p q) where
   branches_same : ((ts : List Token) → Written write_step ts (p ts)) → (o : Condition) (ts : List Token) → length ts < n → parse_branches p o ts ≡ parse_branches q o ts
   unfolding parse_branches
   branches_same written o ts h =
-      mark_same thenWord ts _ _ _
+      mark_same then_word ts _ _ _
       (λ rest e. let a = after_mark e in rw (← same rest (omega arith))
       (bind-same (p rest) _ _
       (λ s after i. let b = shorter write_step step_longer rest (p rest) (written rest) s after i in
-      mark_same elseWord after _ _ _
+      mark_same else_word after _ _ _
       (λ rest j. let c = after_mark j in rw (same rest (omega arith))))))
 
   if_same : ((ts : List Token) → Written write_step ts (p ts)) → (ts : List Token) → length ts < n → bind (parse_condition ts) (parse_branches p) ≡ bind (parse_condition ts) (parse_branches q)
@@ -114,19 +114,19 @@ mutual
   step_enough (suc f) (suc g) (variable v ∷ ts) h i = refl
   step_enough (suc f) (suc g) (clock c ∷ ts) h i = refl
   step_enough (suc f) (suc g) (unknown ∷ ts) h i = refl
-  step_enough (suc f) (suc g) (mark startWord ∷ ts) h i = refl
-  step_enough (suc f) (suc g) (mark waitWord ∷ ts) h i = refl
-  step_enough (suc f) (suc g) (mark maintainWord ∷ ts) h i =
+  step_enough (suc f) (suc g) (mark start_word ∷ ts) h i = refl
+  step_enough (suc f) (suc g) (mark wait_word ∷ ts) h i = refl
+  step_enough (suc f) (suc g) (mark maintain_word ∷ ts) h i =
       maintain_same (step_within f) (step_within g) (suc (length ts)) (λ us l. step_enough f g us (omega arith) (omega arith)) ts (omega arith)
-  step_enough (suc f) (suc g) (mark repeatWord ∷ ts) h i = rw (step_enough f g ts (omega arith) (omega arith))
-  step_enough (suc f) (suc g) (mark ifWord ∷ ts) h i =
+  step_enough (suc f) (suc g) (mark repeat_word ∷ ts) h i = rw (step_enough f g ts (omega arith) (omega arith))
+  step_enough (suc f) (suc g) (mark if_word ∷ ts) h i =
       if_same (step_within f) (step_within g) (suc (length ts)) (λ us l. step_enough f g us (omega arith) (omega arith)) (step_written f) ts (omega arith)
-  step_enough (suc f) (suc g) (mark thenWord ∷ ts) h i = refl
-  step_enough (suc f) (suc g) (mark elseWord ∷ ts) h i = refl
-  step_enough (suc f) (suc g) (mark equalSign ∷ ts) h i = refl
-  step_enough (suc f) (suc g) (mark differsSign ∷ ts) h i = refl
-  step_enough (suc f) (suc g) (mark atLeastSign ∷ ts) h i = refl
-  step_enough (suc f) (suc g) (mark belowSign ∷ ts) h i = refl
+  step_enough (suc f) (suc g) (mark then_word ∷ ts) h i = refl
+  step_enough (suc f) (suc g) (mark else_word ∷ ts) h i = refl
+  step_enough (suc f) (suc g) (mark equal_sign ∷ ts) h i = refl
+  step_enough (suc f) (suc g) (mark differs_sign ∷ ts) h i = refl
+  step_enough (suc f) (suc g) (mark at_least_sign ∷ ts) h i = refl
+  step_enough (suc f) (suc g) (mark below_sign ∷ ts) h i = refl
   step_enough (suc f) (suc g) (mark semicolon ∷ ts) h i = refl
   step_enough (suc f) (suc g) (mark comma ∷ ts) h i = refl
   step_enough (suc f) (suc g) (mark opening ∷ ts) h i = rw (body_enough f g ts (omega arith) (omega arith))
@@ -190,29 +190,29 @@ module _ (ts : List Token) where
   unfolding parse_step
   same_step us l = step_enough below (calls_for us) us (omega arith) (omega arith)
 
-  pub goal_law : (v : ℕ) → parse_step (variable v ∷ ts) ≡ expect equalSign ts (parse_value (goal_step v))
+  pub goal_law : (v : ℕ) → parse_step (variable v ∷ ts) ≡ expect equal_sign ts (parse_value (goal_step v))
   unfolding step_within
   goal_law v = rw (first_call (variable v))
 
-  pub start_law : parse_step (mark startWord ∷ ts) ≡ bind (parse_clock ts) (λ c after. got (start_step c) after)
+  pub start_law : parse_step (mark start_word ∷ ts) ≡ bind (parse_clock ts) (λ c after. got (start_step c) after)
   unfolding step_within
-  start_law = rw (first_call (mark startWord))
+  start_law = rw (first_call (mark start_word))
 
-  pub wait_law : parse_step (mark waitWord ∷ ts) ≡ bind (parse_condition ts) (λ o after. got (wait_step o) after)
+  pub wait_law : parse_step (mark wait_word ∷ ts) ≡ bind (parse_condition ts) (λ o after. got (wait_step o) after)
   unfolding step_within
-  wait_law = rw (first_call (mark waitWord))
+  wait_law = rw (first_call (mark wait_word))
 
-  pub maintain_law : parse_step (mark maintainWord ∷ ts) ≡ bind (parse_condition ts) (λ o after. bind (parse_step after) (λ s end. got (maintain_step o s) end))
+  pub maintain_law : parse_step (mark maintain_word ∷ ts) ≡ bind (parse_condition ts) (λ o after. bind (parse_step after) (λ s end. got (maintain_step o s) end))
   unfolding step_within
-  maintain_law = rw (first_call (mark maintainWord)) (maintain_same (step_within below) parse_step (suc (length ts)) same_step ts (omega arith))
+  maintain_law = rw (first_call (mark maintain_word)) (maintain_same (step_within below) parse_step (suc (length ts)) same_step ts (omega arith))
 
-  pub repeat_law : parse_step (mark repeatWord ∷ ts) ≡ bind (parse_step ts) (λ s after. got (repeat_step s) after)
+  pub repeat_law : parse_step (mark repeat_word ∷ ts) ≡ bind (parse_step ts) (λ s after. got (repeat_step s) after)
   unfolding step_within
-  repeat_law = rw (first_call (mark repeatWord), same_step ts (omega arith))
+  repeat_law = rw (first_call (mark repeat_word), same_step ts (omega arith))
 
-  pub if_law : parse_step (mark ifWord ∷ ts) ≡ bind (parse_condition ts) (parse_branches parse_step)
+  pub if_law : parse_step (mark if_word ∷ ts) ≡ bind (parse_condition ts) (parse_branches parse_step)
   unfolding step_within
-  if_law = rw (first_call (mark ifWord)) (if_same (step_within below) parse_step (suc (length ts)) same_step (step_written below) ts (omega arith))
+  if_law = rw (first_call (mark if_word)) (if_same (step_within below) parse_step (suc (length ts)) same_step (step_written below) ts (omega arith))
 
   pub group_law : parse_step (mark opening ∷ ts) ≡ bind (parse_body ts) close_group
   unfolding parse_body step_within
@@ -220,17 +220,17 @@ module _ (ts : List Token) where
 
 -- the tokens that a step begins with
 unfoldable pub begins_step : Token → Bool
-begins_step (mark startWord) = true
-begins_step (mark waitWord) = true
-begins_step (mark maintainWord) = true
-begins_step (mark repeatWord) = true
-begins_step (mark ifWord) = true
-begins_step (mark thenWord) = false
-begins_step (mark elseWord) = false
-begins_step (mark equalSign) = false
-begins_step (mark differsSign) = false
-begins_step (mark atLeastSign) = false
-begins_step (mark belowSign) = false
+begins_step (mark start_word) = true
+begins_step (mark wait_word) = true
+begins_step (mark maintain_word) = true
+begins_step (mark repeat_word) = true
+begins_step (mark if_word) = true
+begins_step (mark then_word) = false
+begins_step (mark else_word) = false
+begins_step (mark equal_sign) = false
+begins_step (mark differs_sign) = false
+begins_step (mark at_least_sign) = false
+begins_step (mark below_sign) = false
 begins_step (mark semicolon) = false
 begins_step (mark comma) = false
 begins_step (mark opening) = true
@@ -247,17 +247,17 @@ end_law = refl
 
 pub other_law : (t : Token) (ts : List Token) → begins_step t ≡ false → parse_step (t ∷ ts) ≡ stopped (t ∷ ts)
 unfolding begins_step step_within
-other_law (mark startWord) ts h = absurd (false≢true (sym h))
-other_law (mark waitWord) ts h = absurd (false≢true (sym h))
-other_law (mark maintainWord) ts h = absurd (false≢true (sym h))
-other_law (mark repeatWord) ts h = absurd (false≢true (sym h))
-other_law (mark ifWord) ts h = absurd (false≢true (sym h))
-other_law (mark thenWord) ts h = first_call ts (mark thenWord)
-other_law (mark elseWord) ts h = first_call ts (mark elseWord)
-other_law (mark equalSign) ts h = first_call ts (mark equalSign)
-other_law (mark differsSign) ts h = first_call ts (mark differsSign)
-other_law (mark atLeastSign) ts h = first_call ts (mark atLeastSign)
-other_law (mark belowSign) ts h = first_call ts (mark belowSign)
+other_law (mark start_word) ts h = absurd (false≢true (sym h))
+other_law (mark wait_word) ts h = absurd (false≢true (sym h))
+other_law (mark maintain_word) ts h = absurd (false≢true (sym h))
+other_law (mark repeat_word) ts h = absurd (false≢true (sym h))
+other_law (mark if_word) ts h = absurd (false≢true (sym h))
+other_law (mark then_word) ts h = first_call ts (mark then_word)
+other_law (mark else_word) ts h = first_call ts (mark else_word)
+other_law (mark equal_sign) ts h = first_call ts (mark equal_sign)
+other_law (mark differs_sign) ts h = first_call ts (mark differs_sign)
+other_law (mark at_least_sign) ts h = first_call ts (mark at_least_sign)
+other_law (mark below_sign) ts h = first_call ts (mark below_sign)
 other_law (mark semicolon) ts h = first_call ts (mark semicolon)
 other_law (mark comma) ts h = first_call ts (mark comma)
 other_law (mark opening) ts h = absurd (false≢true (sym h))

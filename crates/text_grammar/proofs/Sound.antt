@@ -2,8 +2,8 @@
 use Prim.Native.Nat.{ℕ, zero, suc}
 use mathlib.Core.Path.{◌≡◌, refl, ap, ◌∙◌}
 use mathlib.Core.List.{List, [], ◌∷◌}
-use Rattle.text_grammar.specs.Tokens.{Mark, mark-discrete, startWord, waitWord, maintainWord, repeatWord, ifWord, thenWord, elseWord, equalSign, differsSign, atLeastSign, belowSign, semicolon, comma, opening, closing, colon, Token, mark, number, variable, clock, unknown}
-use Rattle.text_grammar.specs.Syntax.{variableEquals, variableDiffers, clockAtLeast, clockBelow, Step, goal_step, maintain_step, repeat_step, Text, write_condition, write_step, write_sequence, write_body, write_text}
+use Rattle.text_grammar.specs.Tokens.{Mark, mark-discrete, start_word, wait_word, maintain_word, repeat_word, if_word, then_word, else_word, equal_sign, differs_sign, at_least_sign, below_sign, semicolon, comma, opening, closing, colon, Token, mark, number, variable, clock, unknown}
+use Rattle.text_grammar.specs.Syntax.{variable_equals, variable_differs, clock_at_least, clock_below, Step, goal_step, maintain_step, repeat_step, Text, write_condition, write_step, write_sequence, write_body, write_text}
 use Rattle.text_grammar.specs.Parser.{Parsed, got, stopped, bind, when, on_mark, parse_number, parse_clock, parse_value, parse_condition, sequence_rest, body_rest, close_group, parse_branches, step_within, sequence_within, body_within, calls_for, parse_body, end_text, parse_text}
 
 -- A reading of `ts` that is written, by w, as these tokens
@@ -68,16 +68,16 @@ condition_written (mark k ∷ ts) = tt
 condition_written (number n ∷ ts) = tt
 condition_written (variable v ∷ ts) =
     let w : List Token → List Token = λ l. variable v ∷ l in
-    written_mark write_condition (variable v ∷ ts) equalSign ts _ _
-    (λ rest. value_written write_condition (variable v ∷ ts) ts rest equalSign (variableEquals v) (λ n after. ap w))
-    (written_mark write_condition (variable v ∷ ts) differsSign ts _ _
-    (λ rest. value_written write_condition (variable v ∷ ts) ts rest differsSign (variableDiffers v) (λ n after. ap w)) tt)
+    written_mark write_condition (variable v ∷ ts) equal_sign ts _ _
+    (λ rest. value_written write_condition (variable v ∷ ts) ts rest equal_sign (variable_equals v) (λ n after. ap w))
+    (written_mark write_condition (variable v ∷ ts) differs_sign ts _ _
+    (λ rest. value_written write_condition (variable v ∷ ts) ts rest differs_sign (variable_differs v) (λ n after. ap w)) tt)
 condition_written (clock c ∷ ts) =
     let w : List Token → List Token = λ l. clock c ∷ l in
-    written_mark write_condition (clock c ∷ ts) atLeastSign ts _ _
-    (λ rest. value_written write_condition (clock c ∷ ts) ts rest atLeastSign (clockAtLeast c) (λ n after. ap w))
-    (written_mark write_condition (clock c ∷ ts) belowSign ts _ _
-    (λ rest. value_written write_condition (clock c ∷ ts) ts rest belowSign (clockBelow c) (λ n after. ap w)) tt)
+    written_mark write_condition (clock c ∷ ts) at_least_sign ts _ _
+    (λ rest. value_written write_condition (clock c ∷ ts) ts rest at_least_sign (clock_at_least c) (λ n after. ap w))
+    (written_mark write_condition (clock c ∷ ts) below_sign ts _ _
+    (λ rest. value_written write_condition (clock c ∷ ts) ts rest below_sign (clock_below c) (λ n after. ap w)) tt)
 condition_written (unknown ∷ ts) = tt
 
 marked : (m : Mark) {a b : List Token} → a ≡ b → mark m ∷ a ≡ mark m ∷ b
@@ -86,27 +86,27 @@ marked m e = ap (λ (l : List Token). mark m ∷ l) e
 -- the forms that read on, over what a step is read with
 module _ (step : List Token → Parsed Step) (written : (ts : List Token) → Written write_step ts (step ts)) where
   maintain_written : (ts : List Token)
-      → Written write_step (mark maintainWord ∷ ts) (bind (parse_condition ts) (λ o after. bind (step after) (λ s end. got (maintain_step o s) end)))
+      → Written write_step (mark maintain_word ∷ ts) (bind (parse_condition ts) (λ o after. bind (step after) (λ s end. got (maintain_step o s) end)))
   unfolding write_step
   maintain_written ts =
-      written_bind write_step (mark maintainWord ∷ ts) write_condition ts (parse_condition ts) _ (condition_written ts)
-      (λ o after e. written_bind write_step (mark maintainWord ∷ ts) write_step after (step after) _ (written after)
-      (λ s end i. marked maintainWord (e ∙ ap (write_condition o) i)))
+      written_bind write_step (mark maintain_word ∷ ts) write_condition ts (parse_condition ts) _ (condition_written ts)
+      (λ o after e. written_bind write_step (mark maintain_word ∷ ts) write_step after (step after) _ (written after)
+      (λ s end i. marked maintain_word (e ∙ ap (write_condition o) i)))
 
-  repeat_written : (ts : List Token) → Written write_step (mark repeatWord ∷ ts) (bind (step ts) (λ s after. got (repeat_step s) after))
+  repeat_written : (ts : List Token) → Written write_step (mark repeat_word ∷ ts) (bind (step ts) (λ s after. got (repeat_step s) after))
   unfolding write_step
-  repeat_written ts = written_bind write_step (mark repeatWord ∷ ts) write_step ts (step ts) _ (written ts) (λ s after. marked repeatWord)
+  repeat_written ts = written_bind write_step (mark repeat_word ∷ ts) write_step ts (step ts) _ (written ts) (λ s after. marked repeat_word)
 
-  if_written : (ts : List Token) → Written write_step (mark ifWord ∷ ts) (bind (parse_condition ts) (parse_branches step))
+  if_written : (ts : List Token) → Written write_step (mark if_word ∷ ts) (bind (parse_condition ts) (parse_branches step))
   unfolding write_step parse_branches
   if_written ts =
-      let all : List Token = mark ifWord ∷ ts in
+      let all : List Token = mark if_word ∷ ts in
       written_bind write_step all write_condition ts (parse_condition ts) _ (condition_written ts)
-      (λ o after e. written_mark write_step all thenWord after _ _
+      (λ o after e. written_mark write_step all then_word after _ _
       (λ rest i. written_bind write_step all write_step rest (step rest) _ (written rest)
-      (λ s after j. written_mark write_step all elseWord after _ _
+      (λ s after j. written_mark write_step all else_word after _ _
       (λ rest k. written_bind write_step all write_step rest (step rest) _ (written rest)
-      (λ u end l. marked ifWord (e ∙ ap (write_condition o) (i ∙ marked thenWord (j ∙ ap (write_step s) (k ∙ marked elseWord l))))))
+      (λ u end l. marked if_word (e ∙ ap (write_condition o) (i ∙ marked then_word (j ∙ ap (write_step s) (k ∙ marked else_word l))))))
       tt)) tt)
 
 mutual
@@ -117,23 +117,23 @@ mutual
   step_written (suc f) [] = tt
   step_written (suc f) (number n ∷ ts) = tt
   step_written (suc f) (variable v ∷ ts) =
-      written_mark write_step (variable v ∷ ts) equalSign ts _ _
-      (λ rest. value_written write_step (variable v ∷ ts) ts rest equalSign (goal_step v) (λ n after. ap (λ (l : List Token). variable v ∷ l))) tt
+      written_mark write_step (variable v ∷ ts) equal_sign ts _ _
+      (λ rest. value_written write_step (variable v ∷ ts) ts rest equal_sign (goal_step v) (λ n after. ap (λ (l : List Token). variable v ∷ l))) tt
   step_written (suc f) (clock c ∷ ts) = tt
   step_written (suc f) (unknown ∷ ts) = tt
-  step_written (suc f) (mark startWord ∷ ts) =
-      written_bind write_step (mark startWord ∷ ts) _ ts (parse_clock ts) _ (clock_written ts) (λ c after. marked startWord)
-  step_written (suc f) (mark waitWord ∷ ts) =
-      written_bind write_step (mark waitWord ∷ ts) write_condition ts (parse_condition ts) _ (condition_written ts) (λ o after. marked waitWord)
-  step_written (suc f) (mark maintainWord ∷ ts) = maintain_written (step_within f) (step_written f) ts
-  step_written (suc f) (mark repeatWord ∷ ts) = repeat_written (step_within f) (step_written f) ts
-  step_written (suc f) (mark ifWord ∷ ts) = if_written (step_within f) (step_written f) ts
-  step_written (suc f) (mark thenWord ∷ ts) = tt
-  step_written (suc f) (mark elseWord ∷ ts) = tt
-  step_written (suc f) (mark equalSign ∷ ts) = tt
-  step_written (suc f) (mark differsSign ∷ ts) = tt
-  step_written (suc f) (mark atLeastSign ∷ ts) = tt
-  step_written (suc f) (mark belowSign ∷ ts) = tt
+  step_written (suc f) (mark start_word ∷ ts) =
+      written_bind write_step (mark start_word ∷ ts) _ ts (parse_clock ts) _ (clock_written ts) (λ c after. marked start_word)
+  step_written (suc f) (mark wait_word ∷ ts) =
+      written_bind write_step (mark wait_word ∷ ts) write_condition ts (parse_condition ts) _ (condition_written ts) (λ o after. marked wait_word)
+  step_written (suc f) (mark maintain_word ∷ ts) = maintain_written (step_within f) (step_written f) ts
+  step_written (suc f) (mark repeat_word ∷ ts) = repeat_written (step_within f) (step_written f) ts
+  step_written (suc f) (mark if_word ∷ ts) = if_written (step_within f) (step_written f) ts
+  step_written (suc f) (mark then_word ∷ ts) = tt
+  step_written (suc f) (mark else_word ∷ ts) = tt
+  step_written (suc f) (mark equal_sign ∷ ts) = tt
+  step_written (suc f) (mark differs_sign ∷ ts) = tt
+  step_written (suc f) (mark at_least_sign ∷ ts) = tt
+  step_written (suc f) (mark below_sign ∷ ts) = tt
   step_written (suc f) (mark semicolon ∷ ts) = tt
   step_written (suc f) (mark comma ∷ ts) = tt
   step_written (suc f) (mark opening ∷ ts) =

@@ -9,7 +9,7 @@ use borrow.Author.Tests.{eqb-true}
 use Rattle.base.specs.Lists.{all, nonempty, same}
 use Rattle.base.proofs.Lists.{and_left, and_right, same_eq}
 use Rattle.text_grammar.specs.Characters.{bytes, is_blank, is_digit, is_word_byte}
-use Rattle.text_grammar.specs.Tokens.{Mark, startWord, waitWord, maintainWord, repeatWord, ifWord, thenWord, elseWord, equalSign, differsSign, atLeastSign, belowSign, semicolon, comma, opening, closing, colon, marks, Token, mark, number, variable, clock, unknown, spelling, is_number, numbered, named_token, token_among, token_of, is_known, is_apart, Spelled, ends, token}
+use Rattle.text_grammar.specs.Tokens.{Mark, start_word, wait_word, maintain_word, repeat_word, if_word, then_word, else_word, equal_sign, differs_sign, at_least_sign, below_sign, semicolon, comma, opening, closing, colon, marks, Token, mark, number, variable, clock, unknown, spelling, is_number, numbered, named_token, token_among, token_of, is_known, is_apart, Spelled, ends, token}
 use Rattle.text_grammar.specs.Lexer.{joins, end_run, tokens_after, tokens}
 use Rattle.text_grammar.proofs.Lexing.{impossible, blank_not_word, join_step, cut_again, blank_step, run_step, gap_law, begins_word, word_law, sign_law, pair_law}
 
@@ -33,17 +33,17 @@ follows_apart (token (b ∷ gap) run h a k r) = blank_not_word b (and_left (is_b
 -- a mark that is no word
 mark_law : (m : Mark) (t : List ℕ) → all is_word_byte (spelling m) ≡ false → tokens (spelling m ++ t) ≡ token_of (spelling m) ∷ tokens t
 unfolding spelling joins is_blank is_word_byte is_digit
-mark_law startWord t h = impossible (sym h)
-mark_law waitWord t h = impossible (sym h)
-mark_law maintainWord t h = impossible (sym h)
-mark_law repeatWord t h = impossible (sym h)
-mark_law ifWord t h = impossible (sym h)
-mark_law thenWord t h = impossible (sym h)
-mark_law elseWord t h = impossible (sym h)
-mark_law equalSign t h = sign_law (code "=") t refl (λ b r w. refl)
-mark_law differsSign t h = pair_law (code "!") (code "=") t refl refl (λ b. refl)
-mark_law atLeastSign t h = pair_law (code ">") (code "=") t refl refl (λ b. refl)
-mark_law belowSign t h = sign_law (code "<") t refl (λ b r w. refl)
+mark_law start_word t h = impossible (sym h)
+mark_law wait_word t h = impossible (sym h)
+mark_law maintain_word t h = impossible (sym h)
+mark_law repeat_word t h = impossible (sym h)
+mark_law if_word t h = impossible (sym h)
+mark_law then_word t h = impossible (sym h)
+mark_law else_word t h = impossible (sym h)
+mark_law equal_sign t h = sign_law (code "=") t refl (λ b r w. refl)
+mark_law differs_sign t h = pair_law (code "!") (code "=") t refl refl (λ b. refl)
+mark_law at_least_sign t h = pair_law (code ">") (code "=") t refl refl (λ b. refl)
+mark_law below_sign t h = sign_law (code "<") t refl (λ b r w. refl)
 mark_law semicolon t h = sign_law (code ";") t refl (λ b r w. refl)
 mark_law comma t h = sign_law (code ",") t refl (λ b r w. refl)
 mark_law opening t h = sign_law (code "(") t refl (λ b r w. refl)

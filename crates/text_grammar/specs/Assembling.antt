@@ -6,7 +6,7 @@ use Rattle.base.specs.Lists.{all, first_failing}
 use Rattle.meaning.specs.Sizes.{max_depth}
 use Rattle.meaning.specs.Tree.{size, depth}
 use Rattle.meaning.specs.Program.{sizes_in_range, entry_allowed, preorder}
-use Rattle.meaning.specs.Answers.{sizeOutOfRange, operandNotAllowed, tooDeep, bufferTooShort, notAText}
+use Rattle.meaning.specs.Answers.{size_out_of_range, operand_not_allowed, too_deep, buffer_too_short, not_a_text}
 use Rattle.text_grammar.specs.Syntax.{Text}
 use Rattle.text_grammar.specs.Trees.{body_tree, text_file}
 use Rattle.text_grammar.specs.Parser.{reading}
@@ -15,17 +15,17 @@ use Rattle.text_grammar.specs.Parser.{reading}
 -- that these are the refusals of its file
 abbrev pub text_tests : Text → List (ℕ × Bool)
 text_tests x =
-    (sizeOutOfRange, sizes_in_range (size (body_tree x.body)) x.variables x.clocks)
-    ∷ (operandNotAllowed, all (entry_allowed x.variables x.clocks) (preorder (body_tree x.body)))
-    ∷ (tooDeep, leb (depth (body_tree x.body)) max_depth)
+    (size_out_of_range, sizes_in_range (size (body_tree x.body)) x.variables x.clocks)
+    ∷ (operand_not_allowed, all (entry_allowed x.variables x.clocks) (preorder (body_tree x.body)))
+    ∷ (too_deep, leb (depth (body_tree x.body)) max_depth)
     ∷ []
 
 abbrev pub assemble_tests : Text → ℕ → List (ℕ × Bool)
-assemble_tests x room = text_tests x ++ ((bufferTooShort, leb (length (text_file x)) room) ∷ [])
+assemble_tests x room = text_tests x ++ ((buffer_too_short, leb (length (text_file x)) room) ∷ [])
 
 -- "16 for a text outside the grammar or too long, given first"
 unfoldable pub refusal_of : Option Text → ℕ → ℕ
-refusal_of none room = notAText
+refusal_of none room = not_a_text
 refusal_of (some x) room = first_failing (assemble_tests x room)
 
 unfoldable pub assemble_refusal : List ℕ → ℕ → ℕ

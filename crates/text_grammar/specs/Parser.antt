@@ -1,8 +1,8 @@
 -- The reading of tokens, computed. proofs/Exact.antt joins it to `write_text`.
 use Rattle.std.specs.Prelude.{ℕ, zero, suc, ◌+◌, ◌*◌, cond, List, [], ◌∷◌, leb, length}
 use Rattle.std.proofs.Math.Option.{Option, none, some}
-use Rattle.text_grammar.specs.Tokens.{Mark, mark-discrete, startWord, waitWord, maintainWord, repeatWord, ifWord, thenWord, elseWord, equalSign, differsSign, atLeastSign, belowSign, semicolon, comma, opening, closing, colon, Token, mark, number, variable, clock, unknown}
-use Rattle.text_grammar.specs.Syntax.{Condition, variableEquals, variableDiffers, clockAtLeast, clockBelow, Step, goal_step, start_step, wait_step, maintain_step, repeat_step, if_step, bracketed, Sequence, one_step, more_steps, Body, one_sequence, more_sequences, Text}
+use Rattle.text_grammar.specs.Tokens.{Mark, mark-discrete, start_word, wait_word, maintain_word, repeat_word, if_word, then_word, else_word, equal_sign, differs_sign, at_least_sign, below_sign, semicolon, comma, opening, closing, colon, Token, mark, number, variable, clock, unknown}
+use Rattle.text_grammar.specs.Syntax.{Condition, variable_equals, variable_differs, clock_at_least, clock_below, Step, goal_step, start_step, wait_step, maintain_step, repeat_step, if_step, bracketed, Sequence, one_step, more_steps, Body, one_sequence, more_sequences, Text}
 use Rattle.text_grammar.specs.Texts.{max_text_length}
 use Rattle.text_grammar.specs.Lexer.{tokens}
 
@@ -55,8 +55,8 @@ unfoldable pub parse_condition : List Token → Parsed Condition
 parse_condition [] = stopped []
 parse_condition (mark m ∷ rest) = stopped (mark m ∷ rest)
 parse_condition (number n ∷ rest) = stopped (number n ∷ rest)
-parse_condition (variable v ∷ rest) = on_mark equalSign rest (parse_value (variableEquals v)) (expect differsSign rest (parse_value (variableDiffers v)))
-parse_condition (clock c ∷ rest) = on_mark atLeastSign rest (parse_value (clockAtLeast c)) (expect belowSign rest (parse_value (clockBelow c)))
+parse_condition (variable v ∷ rest) = on_mark equal_sign rest (parse_value (variable_equals v)) (expect differs_sign rest (parse_value (variable_differs v)))
+parse_condition (clock c ∷ rest) = on_mark at_least_sign rest (parse_value (clock_at_least c)) (expect below_sign rest (parse_value (clock_below c)))
 parse_condition (unknown ∷ rest) = stopped (unknown ∷ rest)
 
 -- What follows the first step of a sequence, the first sequence of a body, and the body of a group, given how the rest is read
@@ -72,9 +72,9 @@ close_group b ts = expect closing ts (λ rest. got (bracketed b) rest)
 -- the branches of an `if`, given how a step is read
 unfoldable pub parse_branches : (List Token → Parsed Step) → Condition → List Token → Parsed Step
 parse_branches parse o ts =
-    expect thenWord ts
+    expect then_word ts
     (λ rest. bind (parse rest)
-    (λ s after. expect elseWord after
+    (λ s after. expect else_word after
     (λ rest. bind (parse rest)
     (λ u end. got (if_step o s u) end))))
 
@@ -84,20 +84,20 @@ unfoldable mutual
   step_within zero ts = stopped ts
   step_within (suc f) [] = stopped []
   step_within (suc f) (number n ∷ rest) = stopped (number n ∷ rest)
-  step_within (suc f) (variable v ∷ rest) = expect equalSign rest (parse_value (goal_step v))
+  step_within (suc f) (variable v ∷ rest) = expect equal_sign rest (parse_value (goal_step v))
   step_within (suc f) (clock c ∷ rest) = stopped (clock c ∷ rest)
   step_within (suc f) (unknown ∷ rest) = stopped (unknown ∷ rest)
-  step_within (suc f) (mark startWord ∷ rest) = bind (parse_clock rest) (λ c after. got (start_step c) after)
-  step_within (suc f) (mark waitWord ∷ rest) = bind (parse_condition rest) (λ o after. got (wait_step o) after)
-  step_within (suc f) (mark maintainWord ∷ rest) = bind (parse_condition rest) (λ o after. bind (step_within f after) (λ s end. got (maintain_step o s) end))
-  step_within (suc f) (mark repeatWord ∷ rest) = bind (step_within f rest) (λ s after. got (repeat_step s) after)
-  step_within (suc f) (mark ifWord ∷ rest) = bind (parse_condition rest) (parse_branches (step_within f))
-  step_within (suc f) (mark thenWord ∷ rest) = stopped (mark thenWord ∷ rest)
-  step_within (suc f) (mark elseWord ∷ rest) = stopped (mark elseWord ∷ rest)
-  step_within (suc f) (mark equalSign ∷ rest) = stopped (mark equalSign ∷ rest)
-  step_within (suc f) (mark differsSign ∷ rest) = stopped (mark differsSign ∷ rest)
-  step_within (suc f) (mark atLeastSign ∷ rest) = stopped (mark atLeastSign ∷ rest)
-  step_within (suc f) (mark belowSign ∷ rest) = stopped (mark belowSign ∷ rest)
+  step_within (suc f) (mark start_word ∷ rest) = bind (parse_clock rest) (λ c after. got (start_step c) after)
+  step_within (suc f) (mark wait_word ∷ rest) = bind (parse_condition rest) (λ o after. got (wait_step o) after)
+  step_within (suc f) (mark maintain_word ∷ rest) = bind (parse_condition rest) (λ o after. bind (step_within f after) (λ s end. got (maintain_step o s) end))
+  step_within (suc f) (mark repeat_word ∷ rest) = bind (step_within f rest) (λ s after. got (repeat_step s) after)
+  step_within (suc f) (mark if_word ∷ rest) = bind (parse_condition rest) (parse_branches (step_within f))
+  step_within (suc f) (mark then_word ∷ rest) = stopped (mark then_word ∷ rest)
+  step_within (suc f) (mark else_word ∷ rest) = stopped (mark else_word ∷ rest)
+  step_within (suc f) (mark equal_sign ∷ rest) = stopped (mark equal_sign ∷ rest)
+  step_within (suc f) (mark differs_sign ∷ rest) = stopped (mark differs_sign ∷ rest)
+  step_within (suc f) (mark at_least_sign ∷ rest) = stopped (mark at_least_sign ∷ rest)
+  step_within (suc f) (mark below_sign ∷ rest) = stopped (mark below_sign ∷ rest)
   step_within (suc f) (mark semicolon ∷ rest) = stopped (mark semicolon ∷ rest)
   step_within (suc f) (mark comma ∷ rest) = stopped (mark comma ∷ rest)
   step_within (suc f) (mark opening ∷ rest) = bind (body_within f rest) close_group

@@ -6,8 +6,8 @@ use Rattle.text_grammar.specs.Characters.{bytes, is_blank, is_digit, is_word_byt
 
 -- the words, and the signs without a number
 pub data Mark : Type 0 where
-  startWord waitWord maintainWord repeatWord ifWord thenWord elseWord : Mark
-  equalSign differsSign atLeastSign belowSign semicolon comma opening closing colon : Mark
+  start_word wait_word maintain_word repeat_word if_word then_word else_word : Mark
+  equal_sign differs_sign at_least_sign below_sign semicolon comma opening closing colon : Mark
   deriving Discrete as mark-discrete
 
 -- "`v0`, `c0`, `!=` and `>=` are one sign each". `unknown` is a run of bytes that is no sign: nothing is written with it
@@ -18,17 +18,17 @@ pub data Token : Type 0 where
 
 -- "Words are small letters"
 unfoldable pub spelling : Mark → List ℕ
-spelling startWord = bytes "start"
-spelling waitWord = bytes "wait"
-spelling maintainWord = bytes "maintain"
-spelling repeatWord = bytes "repeat"
-spelling ifWord = bytes "if"
-spelling thenWord = bytes "then"
-spelling elseWord = bytes "else"
-spelling equalSign = bytes "="
-spelling differsSign = bytes "!="
-spelling atLeastSign = bytes ">="
-spelling belowSign = bytes "<"
+spelling start_word = bytes "start"
+spelling wait_word = bytes "wait"
+spelling maintain_word = bytes "maintain"
+spelling repeat_word = bytes "repeat"
+spelling if_word = bytes "if"
+spelling then_word = bytes "then"
+spelling else_word = bytes "else"
+spelling equal_sign = bytes "="
+spelling differs_sign = bytes "!="
+spelling at_least_sign = bytes ">="
+spelling below_sign = bytes "<"
 spelling semicolon = bytes ";"
 spelling comma = bytes ","
 spelling opening = bytes "("
@@ -37,17 +37,17 @@ spelling colon = bytes ":"
 
 abbrev pub marks : List Mark
 marks =
-    startWord
-    ∷ waitWord
-    ∷ maintainWord
-    ∷ repeatWord
-    ∷ ifWord
-    ∷ thenWord
-    ∷ elseWord
-    ∷ equalSign
-    ∷ differsSign
-    ∷ atLeastSign
-    ∷ belowSign
+    start_word
+    ∷ wait_word
+    ∷ maintain_word
+    ∷ repeat_word
+    ∷ if_word
+    ∷ then_word
+    ∷ else_word
+    ∷ equal_sign
+    ∷ differs_sign
+    ∷ at_least_sign
+    ∷ below_sign
     ∷ semicolon
     ∷ comma
     ∷ opening

@@ -5,7 +5,7 @@ use Rattle.meaning.specs.Sizes.{byte_values}
 use Rattle.meaning.specs.Kinds.{Test, UNTESTED, EQUALS, DIFFERS, AT-LEAST, BELOW}
 use Rattle.meaning.specs.Tree.{Part, Parts, goal, start, wait, seq, par, maintain, choice, repeat, one, more}
 use Rattle.meaning.specs.Program.{file_of}
-use Rattle.text_grammar.specs.Syntax.{Condition, variableEquals, variableDiffers, clockAtLeast, clockBelow, Step, goal_step, start_step, wait_step, maintain_step, repeat_step, if_step, bracketed, Sequence, one_step, more_steps, Body, one_sequence, more_sequences, Text}
+use Rattle.text_grammar.specs.Syntax.{Condition, variable_equals, variable_differs, clock_at_least, clock_below, Step, goal_step, start_step, wait_step, maintain_step, repeat_step, if_step, bracketed, Sequence, one_step, more_steps, Body, one_sequence, more_sequences, Text}
 
 -- The number of a test: "1 (variable equals value), 2 (differs), 3 (clock reads at least value) or 4 (reads below value)"
 unfoldable pub test_number : Test → ℕ
@@ -21,10 +21,10 @@ abbrev pub operand_of : ℕ → ℕ → ℕ → Operand
 operand_of b0 subject value = record { b0 = b0; b1 = subject; b2 = value % byte_values; b3 = value / byte_values }
 
 unfoldable pub condition_operand : Condition → Operand
-condition_operand (variableEquals v n) = operand_of (test_number EQUALS) v n
-condition_operand (variableDiffers v n) = operand_of (test_number DIFFERS) v n
-condition_operand (clockAtLeast c n) = operand_of (test_number AT-LEAST) c n
-condition_operand (clockBelow c n) = operand_of (test_number BELOW) c n
+condition_operand (variable_equals v n) = operand_of (test_number EQUALS) v n
+condition_operand (variable_differs v n) = operand_of (test_number DIFFERS) v n
+condition_operand (clock_at_least c n) = operand_of (test_number AT-LEAST) c n
+condition_operand (clock_below c n) = operand_of (test_number BELOW) c n
 
 -- "Steps joined by the same sign make one part with that many children, a bracketed group remains a part of its own, and a single step makes no SEQ
 -- or PAR"

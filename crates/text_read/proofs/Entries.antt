@@ -10,7 +10,7 @@ use Rattle.meaning.specs.Kinds.{WAIT, MAINTAIN, CHOICE, REPEAT, number_of}
 use Rattle.meaning.specs.Tree.{Part, Parts, one, more, goal, start, wait, seq, par, maintain, choice, repeat, list_of, count, count_operand}
 use Rattle.meaning.specs.Program.{preorder}
 use Rattle.meaning.proofs.Trees.{preorder_law}
-use Rattle.text_grammar.specs.Tokens.{Mark, mark-discrete, startWord, waitWord, maintainWord, repeatWord, ifWord, thenWord, elseWord, equalSign, semicolon, comma, opening, closing, Token, mark, number, variable, clock, unknown}
+use Rattle.text_grammar.specs.Tokens.{Mark, mark-discrete, start_word, wait_word, maintain_word, repeat_word, if_word, then_word, else_word, equal_sign, semicolon, comma, opening, closing, Token, mark, number, variable, clock, unknown}
 use Rattle.text_grammar.specs.Syntax.{Condition, Step, if_step, one_step, more_steps, one_sequence, more_sequences}
 use Rattle.text_grammar.specs.Trees.{operand_of, condition_operand, step_tree, sequence_tree, step_trees, body_tree, sequence_trees}
 use Rattle.text_grammar.specs.Parser.{Parsed, got, stopped, bind, when, on_mark, expect, parse_number, parse_clock, parse_value, parse_condition, sequence_rest, body_rest, close_group, parse_branches, parse_step, parse_sequence, parse_body}
@@ -60,54 +60,54 @@ unfolding joining_kind
 par_joined = join_law Sequences par (λ ps. preorder_law (par ps))
 
 -- Items joined by a mark, at either level: a list is an item, and the mark with a list after it or nothing
-module _ {I L : Type 0} (l : Level) (m : Mark) (parseItem : List Token → Parsed I) (parseList : List Token → Parsed L)
-    (oneItem : I → L) (moreItems : I → L → L) (itemTree : I → Part) (listTree : L → Part) (itemTrees : L → Parts)
-    (one_tree : (i : I) → listTree (oneItem i) ≡ itemTree i)
-    (more-tree : (i : I) (q : L) → join_entries l (preorder (itemTree i)) (map preorder (list_of (itemTrees q))) ≡ preorder (listTree (moreItems i q)))
-    (one_list : (i : I) → list_of (itemTrees (oneItem i)) ≡ itemTree i ∷ [])
-    (more-list : (i : I) (q : L) → list_of (itemTrees (moreItems i q)) ≡ itemTree i ∷ list_of (itemTrees q))
-    (List-law : (ts : List Token) → parseList ts ≡ bind (parseItem ts) (λ i rest. on_mark m rest (λ r. bind (parseList r) (λ q end. got (moreItems i q) end)) (got (oneItem i) rest)))
+module _ {I L : Type 0} (l : Level) (m : Mark) (parse_item : List Token → Parsed I) (parse_list : List Token → Parsed L)
+    (one_item : I → L) (more_items : I → L → L) (item_tree : I → Part) (list_tree : L → Part) (item_trees : L → Parts)
+    (one_tree : (i : I) → list_tree (one_item i) ≡ item_tree i)
+    (more-tree : (i : I) (q : L) → join_entries l (preorder (item_tree i)) (map preorder (list_of (item_trees q))) ≡ preorder (list_tree (more_items i q)))
+    (one_list : (i : I) → list_of (item_trees (one_item i)) ≡ item_tree i ∷ [])
+    (more-list : (i : I) (q : L) → list_of (item_trees (more_items i q)) ≡ item_tree i ∷ list_of (item_trees q))
+    (List-law : (ts : List Token) → parse_list ts ≡ bind (parse_item ts) (λ i rest. on_mark m rest (λ r. bind (parse_list r) (λ q end. got (more_items i q) end)) (got (one_item i) rest)))
   where
     abbrev entries_of_item : I → List Token → Parsed (List Entry)
-    entries_of_item i rest = got (preorder (itemTree i)) rest
+    entries_of_item i rest = got (preorder (item_tree i)) rest
 
     abbrev entries_of_list : L → List Token → Parsed (List Entry)
-    entries_of_list q rest = got (preorder (listTree q)) rest
+    entries_of_list q rest = got (preorder (list_tree q)) rest
 
     abbrev entries_of_each : L → List Token → Parsed (List (List Entry))
-    entries_of_each q rest = got (map preorder (list_of (itemTrees q))) rest
+    entries_of_each q rest = got (map preorder (list_of (item_trees q))) rest
 
     abbrev further : List Token → Parsed (List (List Entry))
-    further ts = on_mark m ts (λ rest. bind (parseList rest) entries_of_each) (got [] ts)
+    further ts = on_mark m ts (λ rest. bind (parse_list rest) entries_of_each) (got [] ts)
 
     -- what is made of the list after an item
     after_item : {C : Type 0} (g : L → List Token → Parsed C) (i : I) (ts : List Token)
-        → bind (on_mark m ts (λ r. bind (parseList r) (λ q end. got (moreItems i q) end)) (got (oneItem i) ts)) g
-        ≡ on_mark m ts (λ r. bind (parseList r) (λ q end. g (moreItems i q) end)) (g (oneItem i) ts)
+        → bind (on_mark m ts (λ r. bind (parse_list r) (λ q end. got (more_items i q) end)) (got (one_item i) ts)) g
+        ≡ on_mark m ts (λ r. bind (parse_list r) (λ q end. g (more_items i q) end)) (g (one_item i) ts)
     unfolding bind
     after_item g i ts =
-        bind_mark m g ts _ _ ∙ mark_same m ts _ _ _ (λ r e. bind-bind (parseList r) _ g)
+        bind_mark m g ts _ _ ∙ mark_same m ts _ _ _ (λ r e. bind-bind (parse_list r) _ g)
 
     pub list_entries : (ts : List Token)
-        → bind (parseList ts) entries_of_list ≡ bind (bind (parseItem ts) entries_of_item) (λ es rest. bind (further rest) (λ fss end. got (join_entries l es fss) end))
+        → bind (parse_list ts) entries_of_list ≡ bind (bind (parse_item ts) entries_of_item) (λ es rest. bind (further rest) (λ fss end. got (join_entries l es fss) end))
     unfolding bind join_entries
     list_entries ts =
-        rw (List-law ts, bind-bind (parseItem ts) _ entries_of_list, bind-bind (parseItem ts) entries_of_item _)
-        (bind-same (parseItem ts) _ _ (λ i rest e.
+        rw (List-law ts, bind-bind (parse_item ts) _ entries_of_list, bind-bind (parse_item ts) entries_of_item _)
+        (bind-same (parse_item ts) _ _ (λ i rest e.
         after_item entries_of_list i rest
         ∙ rw (one_tree i)
-        (sym (bind_mark m _ rest _ _ ∙ mark_same m rest _ _ _ (λ r z. bind-bind (parseList r) entries_of_each _ ∙ bind-same (parseList r) _ _ (λ q end w. rw (more-tree i q)))))))
+        (sym (bind_mark m _ rest _ _ ∙ mark_same m rest _ _ _ (λ r z. bind-bind (parse_list r) entries_of_each _ ∙ bind-same (parse_list r) _ _ (λ q end w. rw (more-tree i q)))))))
 
     pub further_entries_lem : (ts : List Token)
-        → further ts ≡ on_mark m ts (λ rest. bind (bind (parseItem rest) entries_of_item) (λ fs after. bind (further after) (λ fss end. got (fs ∷ fss) end))) (got [] ts)
+        → further ts ≡ on_mark m ts (λ rest. bind (bind (parse_item rest) entries_of_item) (λ fs after. bind (further after) (λ fss end. got (fs ∷ fss) end))) (got [] ts)
     unfolding bind
     further_entries_lem ts =
         mark_same m ts _ _ _ (λ rest e.
-        rw (List-law rest, bind-bind (parseItem rest) _ entries_of_each, bind-bind (parseItem rest) entries_of_item _)
-        (bind-same (parseItem rest) _ _ (λ i after z.
+        rw (List-law rest, bind-bind (parse_item rest) _ entries_of_each, bind-bind (parse_item rest) entries_of_item _)
+        (bind-same (parse_item rest) _ _ (λ i after z.
         after_item entries_of_each i after
         ∙ rw (one_list i)
-        (sym (bind_mark m _ after _ _ ∙ mark_same m after _ _ _ (λ r y. bind-bind (parseList r) entries_of_each _ ∙ bind-same (parseList r) _ _ (λ q end w. rw (more-list i q))))))))
+        (sym (bind_mark m _ after _ _ ∙ mark_same m after _ _ _ (λ r y. bind-bind (parse_list r) entries_of_each _ ∙ bind-same (parse_list r) _ _ (λ q end w. rw (more-list i q))))))))
 
 pub sequence_entries_lem : (ts : List Token) → sequence_entries ts ≡ bind (step_entries ts) (rest_entries Steps)
 unfolding sequence_entries step_entries rest_entries further_entries sequence_tree step_trees sequence_rest
@@ -143,48 +143,48 @@ module _ (o : Condition) where
   choice_entry = entry CHOICE (condition_operand o)
 
   else_entries : (s : Step) (ts : List Token)
-      → bind (expect elseWord ts (λ rest. bind (parse_step rest) (λ u end. got (if_step o s u) end))) (λ s rest. got (preorder (step_tree s)) rest)
-      ≡ bind (pass_mark elseWord (choice_entry ∷ preorder (step_tree s)) ts) then_step
+      → bind (expect else_word ts (λ rest. bind (parse_step rest) (λ u end. got (if_step o s u) end))) (λ s rest. got (preorder (step_tree s)) rest)
+      ≡ bind (pass_mark else_word (choice_entry ∷ preorder (step_tree s)) ts) then_step
   unfolding pass_mark step_tree bind
   else_entries s ts =
-      bind_mark elseWord _ ts _ _ ∙ sym (bind_mark elseWord then_step ts _ _ ∙ mark_same elseWord ts _ _ _ (λ r e.
+      bind_mark else_word _ ts _ _ ∙ sym (bind_mark else_word then_step ts _ _ ∙ mark_same else_word ts _ _ _ (λ r e.
       then_step_lem (choice_entry ∷ preorder (step_tree s)) r ∙ sym (bind-bind (parse_step r) _ _ ∙ bind-same (parse_step r) _ _ (λ u end z. rw (choice_inside (condition_operand o) (step_tree s) (step_tree u))))))
 
   branches_entries : (ts : List Token)
       → bind (parse_branches parse_step o ts) (λ s rest. got (preorder (step_tree s)) rest)
-      ≡ bind (bind (bind (pass_mark thenWord (choice_entry ∷ []) ts) then_step) (pass_mark elseWord)) then_step
+      ≡ bind (bind (bind (pass_mark then_word (choice_entry ∷ []) ts) then_step) (pass_mark else_word)) then_step
   unfolding parse_branches pass_mark bind
   branches_entries ts =
-      bind_mark thenWord _ ts _ _
-      ∙ sym (ap (λ (x : Parsed (List Entry)). bind (bind x (pass_mark elseWord)) then_step) (bind_mark thenWord then_step ts _ _)
-      ∙ ap (λ (x : Parsed (List Entry)). bind x then_step) (bind_mark thenWord (pass_mark elseWord) ts _ _)
-      ∙ bind_mark thenWord then_step ts _ _
-      ∙ mark_same thenWord ts _ _ _ (λ r e.
-      rw (then_step_lem (choice_entry ∷ []) r, bind-bind (parse_step r) _ (pass_mark elseWord), bind-bind (parse_step r) _ then_step)
+      bind_mark then_word _ ts _ _
+      ∙ sym (ap (λ (x : Parsed (List Entry)). bind (bind x (pass_mark else_word)) then_step) (bind_mark then_word then_step ts _ _)
+      ∙ ap (λ (x : Parsed (List Entry)). bind x then_step) (bind_mark then_word (pass_mark else_word) ts _ _)
+      ∙ bind_mark then_word then_step ts _ _
+      ∙ mark_same then_word ts _ _ _ (λ r e.
+      rw (then_step_lem (choice_entry ∷ []) r, bind-bind (parse_step r) _ (pass_mark else_word), bind-bind (parse_step r) _ then_step)
       (sym (bind-bind (parse_step r) _ _ ∙ bind-same (parse_step r) _ _ (λ s after z. else_entries s after)))))
 
 module _ (ts : List Token) where
   pub goal_entries_lem : (v : ℕ) → step_entries (variable v ∷ ts) ≡ goal_entries v ts
   unfolding step_entries parse_value goal_entries value_entries step_tree bind
   goal_entries_lem v =
-      rw (goal_law ts v) (bind_mark equalSign _ ts _ _
-      ∙ mark_same equalSign ts _ _ _ (λ r e. bind-bind (parse_number r) _ _ ∙ bind-same (parse_number r) _ _ (λ n end z. rw (preorder_law (goal (operand_of 0 v n))))))
+      rw (goal_law ts v) (bind_mark equal_sign _ ts _ _
+      ∙ mark_same equal_sign ts _ _ _ (λ r e. bind-bind (parse_number r) _ _ ∙ bind-same (parse_number r) _ _ (λ n end z. rw (preorder_law (goal (operand_of 0 v n))))))
 
-  pub start_entries_lem : step_entries (mark startWord ∷ ts) ≡ start_entries ts
+  pub start_entries_lem : step_entries (mark start_word ∷ ts) ≡ start_entries ts
   unfolding step_entries start_entries step_tree bind
   start_entries_lem = rw (start_law ts) (bind-bind (parse_clock ts) _ _ ∙ bind-same (parse_clock ts) _ _ (λ c rest e. rw (preorder_law (start (operand_of 0 c 0)))))
 
-  pub wait_entries : step_entries (mark waitWord ∷ ts) ≡ condition_entries (number_of WAIT) ts
+  pub wait_entries : step_entries (mark wait_word ∷ ts) ≡ condition_entries (number_of WAIT) ts
   unfolding step_entries condition_entries step_tree bind
   wait_entries = rw (wait_law ts) (bind-bind (parse_condition ts) _ _ ∙ bind-same (parse_condition ts) _ _ (λ o rest e. rw (preorder_law (wait (condition_operand o)))))
 
-  pub maintain_entries : step_entries (mark maintainWord ∷ ts) ≡ bind (condition_entries (number_of MAINTAIN) ts) then_step
+  pub maintain_entries : step_entries (mark maintain_word ∷ ts) ≡ bind (condition_entries (number_of MAINTAIN) ts) then_step
   unfolding step_entries condition_entries then_step step_tree bind
   maintain_entries =
       rw (maintain_law ts) (bind-bind (parse_condition ts) _ _ ∙ sym (bind-bind (parse_condition ts) _ then_step ∙ bind-same (parse_condition ts) _ _ (λ o rest e.
       bind-bind (parse_step rest) _ _ ∙ sym (bind-bind (parse_step rest) _ _ ∙ bind-same (parse_step rest) _ _ (λ s end z. rw (maintain_inside (condition_operand o) (step_tree s)))))))
 
-  pub repeat_entries : step_entries (mark repeatWord ∷ ts) ≡ then_step (alone (number_of REPEAT) (count_operand 0)) ts
+  pub repeat_entries : step_entries (mark repeat_word ∷ ts) ≡ then_step (alone (number_of REPEAT) (count_operand 0)) ts
   unfolding step_entries then_step step_tree bind
   repeat_entries =
       rw (repeat_law ts) (bind-bind (parse_step ts) _ _ ∙ sym (bind-bind (parse_step ts) _ _ ∙ bind-same (parse_step ts) _ _ (λ s end e. rw (repeat_inside (step_tree s)))))
@@ -195,10 +195,10 @@ module _ (ts : List Token) where
       rw (group_law ts) (bind-bind (parse_body ts) _ _ ∙ sym (bind-bind (parse_body ts) _ (pass_mark closing) ∙ bind-same (parse_body ts) _ _ (λ b rest e.
       sym (bind_mark closing _ rest _ _))))
 
-  pub if_entries : step_entries (mark ifWord ∷ ts) ≡ choice_entries ts
+  pub if_entries : step_entries (mark if_word ∷ ts) ≡ choice_entries ts
   unfolding step_entries condition_entries choice_entries bind
   if_entries =
-      rw (if_law ts, bind-bind (parse_condition ts) _ (pass_mark thenWord), bind-bind (parse_condition ts) _ then_step, bind-bind (parse_condition ts) _ (pass_mark elseWord), bind-bind (parse_condition ts) _ then_step)
+      rw (if_law ts, bind-bind (parse_condition ts) _ (pass_mark then_word), bind-bind (parse_condition ts) _ then_step, bind-bind (parse_condition ts) _ (pass_mark else_word), bind-bind (parse_condition ts) _ then_step)
       (bind-bind (parse_condition ts) _ _ ∙ bind-same (parse_condition ts) _ _ (λ o rest e. branches_entries o rest))
 
 -- a body, by its first step; and one that begins with a bracket, by the body inside

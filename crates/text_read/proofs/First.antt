@@ -8,7 +8,7 @@ use lib.Dec.{eqb}
 use Rattle.base.specs.Lists.{any}
 use lib.ListN.{get_or}
 use native.Mathlib.Omega.{arith}
-use Rattle.text_grammar.specs.Tokens.{Mark, mark-discrete, startWord, waitWord, maintainWord, repeatWord, ifWord, thenWord, elseWord, equalSign, differsSign, atLeastSign, belowSign, semicolon, comma, opening, closing, colon, marks, Token, mark, number, variable, clock, unknown}
+use Rattle.text_grammar.specs.Tokens.{Mark, mark-discrete, start_word, wait_word, maintain_word, repeat_word, if_word, then_word, else_word, equal_sign, differs_sign, at_least_sign, below_sign, semicolon, comma, opening, closing, colon, marks, Token, mark, number, variable, clock, unknown}
 use Rattle.text_grammar.specs.Parser.{stopped, when, on_mark, parse_number, parse_clock, parse_condition, parse_step}
 use Rattle.text_grammar.proofs.Complete.{on_mark_lem}
 use Rattle.text_grammar.proofs.Parsing.{begins_step, end_law, other_law}
@@ -20,17 +20,17 @@ token_by kind value = get_or ((λ v. unknown) ∷ (map (λ m v. mark m) marks ++
 
 mark_by : (m : Mark) (value : ℕ) → token_by (mark_number m) value ≡ mark m
 unfolding mark_number
-mark_by startWord value = refl
-mark_by waitWord value = refl
-mark_by maintainWord value = refl
-mark_by repeatWord value = refl
-mark_by ifWord value = refl
-mark_by thenWord value = refl
-mark_by elseWord value = refl
-mark_by equalSign value = refl
-mark_by differsSign value = refl
-mark_by atLeastSign value = refl
-mark_by belowSign value = refl
+mark_by start_word value = refl
+mark_by wait_word value = refl
+mark_by maintain_word value = refl
+mark_by repeat_word value = refl
+mark_by if_word value = refl
+mark_by then_word value = refl
+mark_by else_word value = refl
+mark_by equal_sign value = refl
+mark_by differs_sign value = refl
+mark_by at_least_sign value = refl
+mark_by below_sign value = refl
 mark_by semicolon value = refl
 mark_by comma value = refl
 mark_by opening value = refl
@@ -120,17 +120,17 @@ step_kinds = 18 ∷ 1 ∷ 2 ∷ 3 ∷ 4 ∷ 5 ∷ 14 ∷ []
 
 begins_by : (t : Token) → begins_step t ≡ any (eqb (kind_number t)) step_kinds
 unfolding begins_step kind_number mark_number
-begins_by (mark startWord) = refl
-begins_by (mark waitWord) = refl
-begins_by (mark maintainWord) = refl
-begins_by (mark repeatWord) = refl
-begins_by (mark ifWord) = refl
-begins_by (mark thenWord) = refl
-begins_by (mark elseWord) = refl
-begins_by (mark equalSign) = refl
-begins_by (mark differsSign) = refl
-begins_by (mark atLeastSign) = refl
-begins_by (mark belowSign) = refl
+begins_by (mark start_word) = refl
+begins_by (mark wait_word) = refl
+begins_by (mark maintain_word) = refl
+begins_by (mark repeat_word) = refl
+begins_by (mark if_word) = refl
+begins_by (mark then_word) = refl
+begins_by (mark else_word) = refl
+begins_by (mark equal_sign) = refl
+begins_by (mark differs_sign) = refl
+begins_by (mark at_least_sign) = refl
+begins_by (mark below_sign) = refl
 begins_by (mark semicolon) = refl
 begins_by (mark comma) = refl
 begins_by (mark opening) = refl

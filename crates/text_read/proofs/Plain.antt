@@ -7,8 +7,8 @@ use lib.Seq.{sets}
 use native.Mathlib.Omega.{arith}
 use Rattle.meaning.specs.Sizes.{byte_values}
 use Rattle.meaning.specs.Kinds.{number_of}
-use Rattle.text_grammar.specs.Tokens.{Mark, equalSign, differsSign, atLeastSign, belowSign, opening, Token, mark, number, variable, clock}
-use Rattle.text_grammar.specs.Syntax.{Condition, variableEquals, variableDiffers, clockAtLeast, clockBelow}
+use Rattle.text_grammar.specs.Tokens.{Mark, equal_sign, differs_sign, at_least_sign, below_sign, opening, Token, mark, number, variable, clock}
+use Rattle.text_grammar.specs.Syntax.{Condition, variable_equals, variable_differs, clock_at_least, clock_below}
 use Rattle.text_grammar.specs.Trees.{operand_of, test_number, condition_operand}
 use Rattle.text_grammar.specs.Lexer.{tokens_from}
 use Rattle.text_grammar.specs.Parser.{got, stopped, bind, on_mark, expect, parse_number, parse_clock, parse_value, parse_condition}
@@ -139,17 +139,17 @@ test_condition kind subject m l c d test other h g ts =
     ∙ ap (on_mark m ts (value_entries kind test subject)) (bind_mark l _ ts _ _ ∙ mark_same l ts _ _ _ (λ rest e. value_condition kind d other subject g rest))
 
 module _ (kind : ℕ) (ts : List Token) where
-  pub variable_condition : kind_of_first ts ≡ 18 → condition_entries kind ts ≡ test_entries kind (first_value ts) equalSign 1 differsSign 2 (later_tokens ts)
+  pub variable_condition : kind_of_first ts ≡ 18 → condition_entries kind ts ≡ test_entries kind (first_value ts) equal_sign 1 differs_sign 2 (later_tokens ts)
   unfolding condition_entries parse_condition condition_operand test_number
   variable_condition h =
       ap (λ (us : List Token). bind (parse_condition us) (λ o rest. got (alone kind (condition_operand o)) rest)) (first_variable ts h)
-      ∙ test_condition kind (first_value ts) equalSign differsSign variableEquals variableDiffers 1 2 (λ n. refl) (λ n. refl) (later_tokens ts)
+      ∙ test_condition kind (first_value ts) equal_sign differs_sign variable_equals variable_differs 1 2 (λ n. refl) (λ n. refl) (later_tokens ts)
 
-  pub clock_condition : kind_of_first ts ≡ 19 → condition_entries kind ts ≡ test_entries kind (first_value ts) atLeastSign 3 belowSign 4 (later_tokens ts)
+  pub clock_condition : kind_of_first ts ≡ 19 → condition_entries kind ts ≡ test_entries kind (first_value ts) at_least_sign 3 below_sign 4 (later_tokens ts)
   unfolding condition_entries parse_condition condition_operand test_number
   clock_condition h =
       ap (λ (us : List Token). bind (parse_condition us) (λ o rest. got (alone kind (condition_operand o)) rest)) (first_clock ts h)
-      ∙ test_condition kind (first_value ts) atLeastSign belowSign clockAtLeast clockBelow 3 4 (λ n. refl) (λ n. refl) (later_tokens ts)
+      ∙ test_condition kind (first_value ts) at_least_sign below_sign clock_at_least clock_below 3 4 (λ n. refl) (λ n. refl) (later_tokens ts)
 
 module _ (t b : List ℕ) (from n kind subject : ℕ) (k : subject ≡ kind_of_first (tokens_from t from)) where
   pub condition_missing : (subject ≡ 18 → ⊥) → (subject ≡ 19 → ⊥) → Does t b n (Stops from) b (condition_entries kind (tokens_from t from))
@@ -159,23 +159,23 @@ module _ (t b : List ℕ) (from n kind subject : ℕ) (k : subject ≡ kind_of_f
   module _ (first second : SignTest) (r : Read) (b' : List ℕ) (d : TestsOne t b from n kind first second r b') where
     pub condition_variable : subject ≡ 18 → first.sign ≡ 8 → first.test ≡ 1 → second.sign ≡ 9 → second.test ≡ 2 → Does t b n r b' (condition_entries kind (tokens_from t from))
     unfolding mark_number
-    condition_variable g i j u v = rw (variable_condition kind (tokens_from t from) (sym k ∙ g), ← j, ← v) (d.tests equalSign differsSign i u)
+    condition_variable g i j u v = rw (variable_condition kind (tokens_from t from) (sym k ∙ g), ← j, ← v) (d.tests equal_sign differs_sign i u)
 
     pub condition_clock : subject ≡ 19 → first.sign ≡ 10 → first.test ≡ 3 → second.sign ≡ 11 → second.test ≡ 4 → Does t b n r b' (condition_entries kind (tokens_from t from))
     unfolding mark_number
-    condition_clock g i j u v = rw (clock_condition kind (tokens_from t from) (sym k ∙ g), ← j, ← v) (d.tests atLeastSign belowSign i u)
+    condition_clock g i j u v = rw (clock_condition kind (tokens_from t from) (sym k ∙ g), ← j, ← v) (d.tests at_least_sign below_sign i u)
 
 -- `goal`: its sign stands at place `place`
 module _ (t b : List ℕ) (from n place sign : ℕ) (p : Passed t from place) (k : sign ≡ kind_of_first (tokens_from t place)) where
   pub goal_missing : (sign ≡ 8 → ⊥) → Does t b n (Stops place) b (goal_entries (first_value (tokens_from t from)) (later_tokens (tokens_from t from)))
   unfolding goal_entries mark_number
-  goal_missing g = stops_made t b n b _ place (rw (← p.later) (mark_elsewhere equalSign (tokens_from t place) _ _ (λ z. g (k ∙ z))))
+  goal_missing g = stops_made t b n b _ place (rw (← p.later) (mark_elsewhere equal_sign (tokens_from t place) _ _ (λ z. g (k ∙ z))))
 
   pub goal_read : (next subject : ℕ) (r : Read) (b' : List ℕ) → sign ≡ 8 → Passed t place next → subject ≡ first_value (tokens_from t from)
       → Does t b n r b' (value_entries 1 0 subject (tokens_from t next)) → Does t b n r b' (goal_entries (first_value (tokens_from t from)) (later_tokens (tokens_from t from)))
   unfolding goal_entries mark_number number_of
   goal_read next subject r b' g q v d =
-      rw (← p.later, mark_first equalSign (tokens_from t place) (value_entries 1 0 (first_value (tokens_from t from))) (stopped (tokens_from t place)) (sym k ∙ g), ← q.later, ← v) d
+      rw (← p.later, mark_first equal_sign (tokens_from t place) (value_entries 1 0 (first_value (tokens_from t from))) (stopped (tokens_from t place)) (sym k ∙ g), ← q.later, ← v) d
 
 -- `start`
 module _ (t b : List ℕ) (from n kind : ℕ) (k : kind ≡ kind_of_first (tokens_from t from)) where

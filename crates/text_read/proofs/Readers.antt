@@ -13,7 +13,7 @@ use Rattle.base.specs.Lists.{any, concat}
 use Rattle.meaning.specs.declared.Entry.{Entry}
 use Rattle.meaning.specs.Kinds.{number_of}
 use Rattle.meaning.specs.Tree.{count_operand}
-use Rattle.text_grammar.specs.Tokens.{Mark, startWord, waitWord, maintainWord, repeatWord, ifWord, thenWord, elseWord, opening, closing, Token, mark}
+use Rattle.text_grammar.specs.Tokens.{Mark, start_word, wait_word, maintain_word, repeat_word, if_word, then_word, else_word, opening, closing, Token, mark}
 use Rattle.text_grammar.specs.Lexer.{tokens_from}
 use Rattle.text_grammar.specs.Parser.{Parsed, got, bind}
 use Rattle.text_grammar.proofs.Parsing.{bind-same}
@@ -43,25 +43,25 @@ module _ (t b : List ℕ) (from n kind next : ℕ) (k : kind ≡ kind_of_first (
 
     pub step_start : kind ≡ 1 → Does t b n r b' (start_entries (tokens_from t next)) → Does t b n r b' (step_entries ts)
     unfolding mark_number
-    step_start g d = rw (step_as startWord start_entries start_entries_lem g) d
+    step_start g d = rw (step_as start_word start_entries start_entries_lem g) d
 
     pub step_wait : kind ≡ 2 → Does t b n r b' (condition_entries 3 (tokens_from t next)) → Does t b n r b' (step_entries ts)
     unfolding mark_number number_of
-    step_wait g d = rw (step_as waitWord (condition_entries 3) wait_entries g) d
+    step_wait g d = rw (step_as wait_word (condition_entries 3) wait_entries g) d
 
     pub step_maintain : (read : Read) (b₁ : List ℕ) → kind ≡ 3 → Does t b n read b₁ (condition_entries 6 (tokens_from t next)) → ContinuesAll then_step t read b₁ r b' → Does t b n r b' (step_entries ts)
     unfolding mark_number number_of
-    step_maintain read b₁ g d c = rw (step_as maintainWord (λ us. bind (condition_entries 6 us) then_step) maintain_entries g) ((c.from_part n).continues b _ d)
+    step_maintain read b₁ g d c = rw (step_as maintain_word (λ us. bind (condition_entries 6 us) then_step) maintain_entries g) ((c.from_part n).continues b _ d)
 
     pub step_repeat : (b₁ : List ℕ) → kind ≡ 4 → b₁ ≡ sets b (part_length * n) (8 ∷ 0 ∷ 0 ∷ 0 ∷ 0 ∷ []) → Does t b₁ (n + 1) r b' (step_entries (tokens_from t next)) → Does t b n r b' (step_entries ts)
     unfolding mark_number number_of then_step clamped
     step_repeat b₁ g h d =
-        rw (step_as repeatWord (then_step (alone 8 (count_operand 0))) repeat_entries g)
+        rw (step_as repeat_word (then_step (alone 8 (count_operand 0))) repeat_entries g)
         (does_append t b n b₁ (n + 1) (alone 8 (count_operand 0)) r b' (step_entries (tokens_from t next)) (stands_alone b n b₁ 8 0 0 0 (omega arith) h) d)
 
     pub step_if : kind ≡ 5 → Does t b n r b' (choice_entries (tokens_from t next)) → Does t b n r b' (step_entries ts)
     unfolding mark_number
-    step_if g d = rw (step_as ifWord choice_entries if_entries g) d
+    step_if g d = rw (step_as if_word choice_entries if_entries g) d
 
     pub step_group : (read : Read) → kind ≡ 14 → Does t b n read b' (body_entries (tokens_from t next)) → Passes t read 15 r → Does t b n r b' (step_entries ts)
     unfolding mark_number
@@ -163,7 +163,7 @@ module _ (t : List ℕ) (n : ℕ) (b : List ℕ) where
       → ContinuesAll then_step t r₁ b₁ r₂ b₂ → Passes t r₂ 7 r₃ → ContinuesAll then_step t r₃ b₂ r b' → Does t b n r b' (choice_entries (tokens_from t from))
   unfolding choice_entries number_of mark_number
   choice_read from r₀ r₁ r₂ r₃ r b₁ b₂ b' d p c q f =
-      (f.from_part n).continues b _ (((q.passes elseWord refl b₂).from_part n).continues b _ ((c.from_part n).continues b _ (((p.passes thenWord refl b₁).from_part n).continues b _ d)))
+      (f.from_part n).continues b _ (((q.passes else_word refl b₂).from_part n).continues b _ ((c.from_part n).continues b _ (((p.passes then_word refl b₁).from_part n).continues b _ d)))
 
 -- `body`: each bracket that closes makes the body the first step of the body around it
 unfoldable pub enclosed : ℕ → Parsed (List Entry) → Parsed (List Entry)

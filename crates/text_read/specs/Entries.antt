@@ -5,7 +5,7 @@ use Rattle.meaning.specs.declared.Entry.{Entry}
 use Rattle.meaning.specs.Kinds.{GOAL, START, CHOICE, number_of}
 use Rattle.meaning.specs.Tree.{list_of}
 use Rattle.meaning.specs.Program.{preorder}
-use Rattle.text_grammar.specs.Tokens.{Mark, thenWord, elseWord, equalSign, semicolon, comma, colon, Token}
+use Rattle.text_grammar.specs.Tokens.{Mark, then_word, else_word, equal_sign, semicolon, comma, colon, Token}
 use Rattle.text_grammar.specs.Syntax.{Text}
 use Rattle.text_grammar.specs.Trees.{operand_of, condition_operand, step_tree, sequence_tree, step_trees, body_tree, sequence_trees}
 use Rattle.text_grammar.specs.Parser.{Parsed, got, bind, on_mark, expect, parse_number, parse_clock, parse_condition, parse_step, parse_sequence, parse_body, end_text}
@@ -40,7 +40,7 @@ condition_entries kind ts = bind (parse_condition ts) (λ o rest. got (alone kin
 
 -- a goal after its variable, and the clock of a START
 unfoldable pub goal_entries : ℕ → List Token → Parsed (List Entry)
-goal_entries v ts = expect equalSign ts (value_entries (number_of GOAL) 0 v)
+goal_entries v ts = expect equal_sign ts (value_entries (number_of GOAL) 0 v)
 
 unfoldable pub start_entries : List Token → Parsed (List Entry)
 start_entries ts = bind (parse_clock ts) (λ c rest. got (alone (number_of START) (operand_of 0 c 0)) rest)
@@ -54,7 +54,7 @@ then_step es ts = bind (step_entries ts) (λ fs rest. got (es ++ fs) rest)
 
 -- the condition and the branches of an `if`
 unfoldable pub choice_entries : List Token → Parsed (List Entry)
-choice_entries ts = bind (bind (bind (bind (condition_entries (number_of CHOICE) ts) (pass_mark thenWord)) then_step) (pass_mark elseWord)) then_step
+choice_entries ts = bind (bind (bind (bind (condition_entries (number_of CHOICE) ts) (pass_mark then_word)) then_step) (pass_mark else_word)) then_step
 
 -- what joins, and what is joined
 unfoldable pub joining_mark : Level → Mark

@@ -4,8 +4,8 @@ use mathlib.Core.Path.{◌≡◌, refl, ap, sym, subst, ◌∙◌}
 use mathlib.Core.List.{List, [], ◌∷◌, ◌++◌, append-nil}
 use mathlib.Core.Option.{Option, none}
 use native.Mathlib.Omega.{arith}
-use Rattle.text_grammar.specs.Tokens.{startWord, waitWord, maintainWord, repeatWord, ifWord, thenWord, elseWord, equalSign, differsSign, atLeastSign, belowSign, semicolon, comma, opening, closing, colon, Token, mark, number, variable, clock, unknown}
-use Rattle.text_grammar.specs.Syntax.{variableEquals, variableDiffers, clockAtLeast, clockBelow, goal_step, one_step, one_sequence, Text, write_condition, write_step, write_sequence, write_body, write_text}
+use Rattle.text_grammar.specs.Tokens.{start_word, wait_word, maintain_word, repeat_word, if_word, then_word, else_word, equal_sign, differs_sign, at_least_sign, below_sign, semicolon, comma, opening, closing, colon, Token, mark, number, variable, clock, unknown}
+use Rattle.text_grammar.specs.Syntax.{variable_equals, variable_differs, clock_at_least, clock_below, goal_step, one_step, one_sequence, Text, write_condition, write_step, write_sequence, write_body, write_text}
 use Rattle.text_grammar.specs.Parser.{Parsed, stopped, parse_number, parse_clock, parse_value, parse_condition, sequence_rest, body_rest, close_group, parse_branches, step_within, sequence_within, body_within, calls_for, parse_body, end_text, parse_text}
 use Rattle.text_grammar.proofs.Parsing.{body_enough}
 use Rattle.text_grammar.proofs.Complete.{text_read_lem}
@@ -65,7 +65,7 @@ value_local f ts e = local_bind (number_local ts) (λ n rest. local_got (e n))
 -- conditions
 any_condition : GoesOn (λ us. us) write_condition none
 unfolding write_condition
-any_condition = (variableEquals 0 0, variable 0 ∷ mark equalSign ∷ number 0 ∷ [], λ us. refl)
+any_condition = (variable_equals 0 0, variable 0 ∷ mark equal_sign ∷ number 0 ∷ [], λ us. refl)
 
 condition_local : (ts : List Token) → LocalAt write_condition parse_condition ts
 unfolding parse_condition write_condition
@@ -74,18 +74,18 @@ condition_local (mark m ∷ ts) = stops any_condition (λ us. refl)
 condition_local (number n ∷ ts) = stops any_condition (λ us. refl)
 condition_local (variable v ∷ ts) =
     local_token (λ us. refl)
-    (local_mark equalSign ts (λ rest. value_local (variableEquals v) rest (λ n us. refl))
-    (local_expect differsSign ts (λ rest. value_local (variableDiffers v) rest (λ n us. refl))))
+    (local_mark equal_sign ts (λ rest. value_local (variable_equals v) rest (λ n us. refl))
+    (local_expect differs_sign ts (λ rest. value_local (variable_differs v) rest (λ n us. refl))))
 condition_local (clock c ∷ ts) =
     local_token (λ us. refl)
-    (local_mark atLeastSign ts (λ rest. value_local (clockAtLeast c) rest (λ n us. refl))
-    (local_expect belowSign ts (λ rest. value_local (clockBelow c) rest (λ n us. refl))))
+    (local_mark at_least_sign ts (λ rest. value_local (clock_at_least c) rest (λ n us. refl))
+    (local_expect below_sign ts (λ rest. value_local (clock_below c) rest (λ n us. refl))))
 condition_local (unknown ∷ ts) = stops any_condition (λ us. refl)
 
 -- steps, sequences and bodies, whatever number of calls they are given
 any_step : GoesOn (λ us. us) write_step none
 unfolding write_step
-any_step = (goal_step 0 0, variable 0 ∷ mark equalSign ∷ number 0 ∷ [], λ us. refl)
+any_step = (goal_step 0 0, variable 0 ∷ mark equal_sign ∷ number 0 ∷ [], λ us. refl)
 
 mutual
   unfolding step_within sequence_within body_within write_step write_sequence write_body sequence_rest body_rest close_group parse_branches
@@ -94,28 +94,28 @@ mutual
   step_local zero ts = local_stopped any_step
   step_local (suc f) [] = ends any_step refl
   step_local (suc f) (number n ∷ ts) = stops any_step (λ us. refl)
-  step_local (suc f) (variable v ∷ ts) = local_token (λ us. refl) (local_expect equalSign ts (λ rest. value_local (goal_step v) rest (λ n us. refl)))
+  step_local (suc f) (variable v ∷ ts) = local_token (λ us. refl) (local_expect equal_sign ts (λ rest. value_local (goal_step v) rest (λ n us. refl)))
   step_local (suc f) (clock c ∷ ts) = stops any_step (λ us. refl)
   step_local (suc f) (unknown ∷ ts) = stops any_step (λ us. refl)
-  step_local (suc f) (mark startWord ∷ ts) = local_token (λ us. refl) (local_bind (clock_local ts) (λ c after. local_got (λ us. refl)))
-  step_local (suc f) (mark waitWord ∷ ts) = local_token (λ us. refl) (local_bind (condition_local ts) (λ o after. local_got (λ us. refl)))
-  step_local (suc f) (mark maintainWord ∷ ts) =
+  step_local (suc f) (mark start_word ∷ ts) = local_token (λ us. refl) (local_bind (clock_local ts) (λ c after. local_got (λ us. refl)))
+  step_local (suc f) (mark wait_word ∷ ts) = local_token (λ us. refl) (local_bind (condition_local ts) (λ o after. local_got (λ us. refl)))
+  step_local (suc f) (mark maintain_word ∷ ts) =
       local_token (λ us. refl) (local_bind (condition_local ts) (λ o after. local_bind (step_local f after) (λ s end. local_got (λ us. refl))))
-  step_local (suc f) (mark repeatWord ∷ ts) = local_token (λ us. refl) (local_bind (step_local f ts) (λ s after. local_got (λ us. refl)))
-  step_local (suc f) (mark ifWord ∷ ts) =
+  step_local (suc f) (mark repeat_word ∷ ts) = local_token (λ us. refl) (local_bind (step_local f ts) (λ s after. local_got (λ us. refl)))
+  step_local (suc f) (mark if_word ∷ ts) =
       local_token (λ us. refl)
       (local_bind (condition_local ts)
-      (λ o after. local_expect thenWord after
+      (λ o after. local_expect then_word after
       (λ rest. local_bind (step_local f rest)
-      (λ s after. local_expect elseWord after
+      (λ s after. local_expect else_word after
       (λ rest. local_bind (step_local f rest)
       (λ u end. local_got (λ us. refl)))))))
-  step_local (suc f) (mark thenWord ∷ ts) = stops any_step (λ us. refl)
-  step_local (suc f) (mark elseWord ∷ ts) = stops any_step (λ us. refl)
-  step_local (suc f) (mark equalSign ∷ ts) = stops any_step (λ us. refl)
-  step_local (suc f) (mark differsSign ∷ ts) = stops any_step (λ us. refl)
-  step_local (suc f) (mark atLeastSign ∷ ts) = stops any_step (λ us. refl)
-  step_local (suc f) (mark belowSign ∷ ts) = stops any_step (λ us. refl)
+  step_local (suc f) (mark then_word ∷ ts) = stops any_step (λ us. refl)
+  step_local (suc f) (mark else_word ∷ ts) = stops any_step (λ us. refl)
+  step_local (suc f) (mark equal_sign ∷ ts) = stops any_step (λ us. refl)
+  step_local (suc f) (mark differs_sign ∷ ts) = stops any_step (λ us. refl)
+  step_local (suc f) (mark at_least_sign ∷ ts) = stops any_step (λ us. refl)
+  step_local (suc f) (mark below_sign ∷ ts) = stops any_step (λ us. refl)
   step_local (suc f) (mark semicolon ∷ ts) = stops any_step (λ us. refl)
   step_local (suc f) (mark comma ∷ ts) = stops any_step (λ us. refl)
   step_local (suc f) (mark opening ∷ ts) =

@@ -11,7 +11,7 @@ use borrow.Author.Tests.{ltb-true, ne_eqb}
 use Rattle.base.specs.Lists.{same}
 use Rattle.base.proofs.Lists.{and_left, and_right, cond_map, cond_cases, cond_same, same_eq}
 use Rattle.base.proofs.Stores.{take_rest}
-use Rattle.text_grammar.specs.Tokens.{Mark, startWord, waitWord, maintainWord, repeatWord, ifWord, thenWord, elseWord, equalSign, differsSign, atLeastSign, belowSign, semicolon, comma, opening, closing, colon, mark, number, spelling, is_number, numbered, named_token, token_among, token_of}
+use Rattle.text_grammar.specs.Tokens.{Mark, start_word, wait_word, maintain_word, repeat_word, if_word, then_word, else_word, equal_sign, differs_sign, at_least_sign, below_sign, semicolon, comma, opening, closing, colon, mark, number, spelling, is_number, numbered, named_token, token_among, token_of}
 use Rattle.text_tokens.specs.First.{mark_number, kind_number, mark_among, no_number, number_of}
 use Rattle.text_tokens.proofs.Decimals.{is_number_lem, no_number_lem}
 
@@ -40,17 +40,17 @@ mark_none (m ∷ ms) run h =
 -- The marks' numbers, which no other kind has
 mark_range : (m : Mark) → (ltb 0 (mark_number m) && ltb (mark_number m) number_kind) ≡ true
 unfolding mark_number
-mark_range startWord = refl
-mark_range waitWord = refl
-mark_range maintainWord = refl
-mark_range repeatWord = refl
-mark_range ifWord = refl
-mark_range thenWord = refl
-mark_range elseWord = refl
-mark_range equalSign = refl
-mark_range differsSign = refl
-mark_range atLeastSign = refl
-mark_range belowSign = refl
+mark_range start_word = refl
+mark_range wait_word = refl
+mark_range maintain_word = refl
+mark_range repeat_word = refl
+mark_range if_word = refl
+mark_range then_word = refl
+mark_range else_word = refl
+mark_range equal_sign = refl
+mark_range differs_sign = refl
+mark_range at_least_sign = refl
+mark_range below_sign = refl
 mark_range semicolon = refl
 mark_range comma = refl
 mark_range opening = refl
@@ -78,10 +78,10 @@ among_rest (m ∷ ms) ns run e =
 
 -- the words and the signs, which are all the marks
 abbrev words : List Mark
-words = startWord ∷ waitWord ∷ maintainWord ∷ repeatWord ∷ ifWord ∷ thenWord ∷ elseWord ∷ []
+words = start_word ∷ wait_word ∷ maintain_word ∷ repeat_word ∷ if_word ∷ then_word ∷ else_word ∷ []
 
 abbrev signs : List Mark
-signs = equalSign ∷ differsSign ∷ atLeastSign ∷ belowSign ∷ semicolon ∷ comma ∷ opening ∷ closing ∷ colon ∷ []
+signs = equal_sign ∷ differs_sign ∷ at_least_sign ∷ below_sign ∷ semicolon ∷ comma ∷ opening ∷ closing ∷ colon ∷ []
 
 pub kind_word : (run : List ℕ) (w : ℕ) → w ≡ mark_among words run → (w ≡ 0 → ⊥) → w ≡ kind_number (token_of run)
 unfolding token_of

@@ -2,23 +2,23 @@
 use Rattle.std.specs.Prelude.{ℕ, ◌-◌, ◌<◌, ◌≤◌, ◌≡◌, true, false, cond, ◌≢◌, List, [], ◌∷◌, length, get_or, take, drop}
 use Rattle.base.specs.Lists.{all, same}
 use Rattle.text_grammar.specs.Characters.{is_blank, is_word_byte}
-use Rattle.text_grammar.specs.Tokens.{Mark, startWord, waitWord, maintainWord, repeatWord, ifWord, thenWord, elseWord, equalSign, differsSign, atLeastSign, belowSign, semicolon, comma, opening, closing, colon, Token, mark, number, variable, clock, unknown, spelling, decimal, max_number, is_number, token_of}
+use Rattle.text_grammar.specs.Tokens.{Mark, start_word, wait_word, maintain_word, repeat_word, if_word, then_word, else_word, equal_sign, differs_sign, at_least_sign, below_sign, semicolon, comma, opening, closing, colon, Token, mark, number, variable, clock, unknown, spelling, decimal, max_number, is_number, token_of}
 use Rattle.text_grammar.specs.Lexer.{tokens_from}
 use Rattle.text_stops.specs.Places.{cut_at}
 
 -- the numbers of the marks, in the order of `marks`
 unfoldable pub mark_number : Mark → ℕ
-mark_number startWord = 1
-mark_number waitWord = 2
-mark_number maintainWord = 3
-mark_number repeatWord = 4
-mark_number ifWord = 5
-mark_number thenWord = 6
-mark_number elseWord = 7
-mark_number equalSign = 8
-mark_number differsSign = 9
-mark_number atLeastSign = 10
-mark_number belowSign = 11
+mark_number start_word = 1
+mark_number wait_word = 2
+mark_number maintain_word = 3
+mark_number repeat_word = 4
+mark_number if_word = 5
+mark_number then_word = 6
+mark_number else_word = 7
+mark_number equal_sign = 8
+mark_number differs_sign = 9
+mark_number at_least_sign = 10
+mark_number below_sign = 11
 mark_number semicolon = 12
 mark_number comma = 13
 mark_number opening = 14

@@ -1,6 +1,6 @@
 // What a run of bytes is: the numbers by which the code names the tokens' kinds, and the values of numbers and names.
 ghost use Rattle.std.specs.Prelude.{◌≡◌, [], ◌∷◌};
-ghost use Rattle.text_grammar.specs.Tokens.{Mark, startWord, waitWord, maintainWord, repeatWord, ifWord, thenWord, elseWord, equalSign, differsSign, atLeastSign, belowSign, semicolon, comma, opening, closing, colon, named_token, token_of};
+ghost use Rattle.text_grammar.specs.Tokens.{Mark, start_word, wait_word, maintain_word, repeat_word, if_word, then_word, else_word, equal_sign, differs_sign, at_least_sign, below_sign, semicolon, comma, opening, closing, colon, named_token, token_of};
 ghost use Rattle.text_tokens.specs.First.{kind_number, value_of, mark_among, number_of};
 
 use crate::runs::is_digit;
@@ -78,7 +78,7 @@ fn number(run: &[u8]) -> u32
 
 // The kind of a run that is a word, or UNKNOWN.
 fn word_kind(run: &[u8]) -> u8
-    ensures { result ≡ mark_among (startWord ∷ waitWord ∷ maintainWord ∷ repeatWord ∷ ifWord ∷ thenWord ∷ elseWord ∷ []) run.now }
+    ensures { result ≡ mark_among (start_word ∷ wait_word ∷ maintain_word ∷ repeat_word ∷ if_word ∷ then_word ∷ else_word ∷ []) run.now }
 {
     if same(run, b"start") {
         return START_WORD;
@@ -106,7 +106,7 @@ fn word_kind(run: &[u8]) -> u8
 
 // The kind of a run that is a mark but no word, or UNKNOWN.
 fn sign_kind(run: &[u8]) -> u8
-    ensures { result ≡ mark_among (equalSign ∷ differsSign ∷ atLeastSign ∷ belowSign ∷ semicolon ∷ comma ∷ opening ∷ closing ∷ colon ∷ []) run.now }
+    ensures { result ≡ mark_among (equal_sign ∷ differs_sign ∷ at_least_sign ∷ below_sign ∷ semicolon ∷ comma ∷ opening ∷ closing ∷ colon ∷ []) run.now }
 {
     if same(run, b"=") {
         return EQUAL_SIGN;

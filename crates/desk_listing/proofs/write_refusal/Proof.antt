@@ -2,7 +2,7 @@
 use native.Mathlib.Omega.{arith}
 use mathlib.Core.List.{[], ◌∷◌}
 use borrow.Author.Rules.{rules}
-use Rattle.meaning.proofs.Answers.{refusal-counts}
+use Rattle.meaning.proofs.Answers.{refusal_counts}
 use Rattle.desk_listing.proofs.Lined.{line_fits}
 use Rattle.desk_listing.proofs.Listed.{refusal_written}
 use Rattle.desk_listing.proofs.write_refusal.Statement.{statement}
@@ -12,7 +12,7 @@ refusal-number-requires : tie.Need-refusal-number-requires
 refusal-number-requires c κs = search rules
 
 cast-t5 : tie.Need-overflow-cast-t5
-cast-t5 c = omega (arith, refusal-counts c.before.before.args.r)
+cast-t5 c = omega (arith, refusal_counts c.before.before.args.r)
 
 slice-aggregate-write-line : tie.Need-slice-aggregate-write-line
 slice-aggregate-write-line c = search rules

@@ -1,5 +1,5 @@
 -- `compile` meets its contract: one law of Operations for each answer.
-use Rattle.meaning.proofs.Answers.{not-refused}
+use Rattle.meaning.proofs.Answers.{not_refused}
 use Rattle.program_compile.proofs.Compiling.{compile_refused, compile_short, read_fits, compile_done}
 use borrow.Author.Rules.{rules}
 use Rattle.program_compile.proofs.compile.Statement.{statement}
@@ -28,7 +28,7 @@ returns-2 c =
     let after-parts = c.before.before in
     let after-enum-told = after-parts.before in
     let after-program-refusal = after-enum-told.before.before in
-    compile_short _ _ _ _ (not-refused _ _ after-program-refusal.program-refusal.ensures after-enum-told.enum_told.given.1) after-parts.parts.ensures c.before.length-of.ensures c.if1.true
+    compile_short _ _ _ _ (not_refused _ _ after-program-refusal.program-refusal.ensures after-enum-told.enum_told.given.1) after-parts.parts.ensures c.before.length-of.ensures c.if1.true
 
 write-table-requires : tie.Need-write-table-requires
 write-table-requires c κs =
@@ -36,7 +36,7 @@ write-table-requires c κs =
     let after-parts = after-length-of.before in
     let after-enum-told = after-parts.before in
     let after-program-refusal = after-enum-told.before.before in
-    let h = not-refused _ _ after-program-refusal.program-refusal.ensures after-enum-told.enum_told.given.1 in
+    let h = not_refused _ _ after-program-refusal.program-refusal.ensures after-enum-told.enum_told.given.1 in
     read_fits _ _ _ _ h after-parts.parts.ensures after-length-of.length-of.ensures c.before.if1.false
 
 same_length : tie.Need-same-length
@@ -49,7 +49,7 @@ returns-3 c =
     let after-parts = room.before.before in
     let told = after-parts.before in
     let after-program-refusal = told.before.before in
-    compile_done _ _ _ _ (not-refused _ _ after-program-refusal.program-refusal.ensures told.enum_told.given.1) after-parts.parts.ensures room.before.length-of.ensures _ room.if1.false after-write-table.write-table.ensures
+    compile_done _ _ _ _ (not_refused _ _ after-program-refusal.program-refusal.ensures told.enum_told.given.1) after-parts.parts.ensures room.before.length-of.ensures _ room.if1.false after-write-table.write-table.ensures
 
 pub compile-spec : {M : Type 1} → statement M
 compile-spec =
