@@ -3,7 +3,6 @@ use Prim.Native.Nat.{ℕ, suc, ◌≤◌, ◌<◌}
 use native.Mathlib.Omega.{arith}
 use mathlib.Core.Path.{◌≡◌, refl, sym, ◌∙◌}
 use mathlib.Core.Bool.{Bool, true, false, not}
-use mathlib.Core.Option.{some}
 use mathlib.Core.List.{List}
 use lib.ListN.{length}
 use borrow.Author.Tests.{ne_eqb}
@@ -11,7 +10,6 @@ use Rattle.meaning.specs.declared.Form.TheVariants.{Table}
 use Rattle.meaning.specs.Sizes.{max_depth, header_length, length_of}
 use Rattle.meaning.specs.Program.{parts, sizes_allowed, program_refusal}
 use Rattle.meaning.specs.Table.{is_table}
-use Rattle.meaning.proofs.Files.{accepted}
 use Rattle.meaning.proofs.Tables.{table_checked}
 use Rattle.program_walk.specs.Walk.{parts_end}
 use Rattle.program_refusals.proofs.Refusals.{too_short, sizes_refused, length_refused, parts_refused, has_parts_lem, no_end, found_whole, parts_pass}
