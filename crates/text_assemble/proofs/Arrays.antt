@@ -12,7 +12,7 @@ use Rattle.base.proofs.Lists.{length_pieces, length-tabulate}
 use Rattle.base.proofs.Stores.{sets-append, stores_step, stores_end}
 use Rattle.meaning.specs.declared.Entry.{Entry}
 use Rattle.meaning.specs.Sizes.{byte_values, header_length, kind_length, operand_length}
-use Rattle.meaning.specs.Program.{size_bytes, kind_byte, entry_operand, arrays}
+use Rattle.meaning.specs.Program.{size_bytes, kind_byte, entry_operand}
 use Rattle.text_parts.specs.Stored.{part_length}
 use Rattle.text_assemble.specs.Packing.{packed_entry, packed_entries, packed_file}
 

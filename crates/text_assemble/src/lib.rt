@@ -1,5 +1,6 @@
 // The operation that assembles: it writes the program file of a text (16, 2, 5, 7, 8).
 #![tactic(auto)]
+
 pub mod packing;
 
 ghost use Rattle.std.specs.Prelude.{◌≡◌, ◌*◌, ◌≤◌, length, take};

@@ -9,7 +9,7 @@ use lib.Dec.{leb}
 use lib.ListN.{length}
 use native.Mathlib.Omega.{arith}
 use borrow.Author.Tests.{leb-true, le-leb}
-use Rattle.text_grammar.specs.Tokens.{then_word, else_word, semicolon, comma, closing, Token, mark, unknown, is_known, Spelled}
+use Rattle.text_grammar.specs.Tokens.{then_word, else_word, semicolon, comma, closing, Token, mark, is_known, Spelled}
 use Rattle.text_grammar.specs.Syntax.{Condition, variable_equals, variable_differs, clock_at_least, clock_below, Step, goal_step, start_step, wait_step, maintain_step, repeat_step, if_step, bracketed, Sequence, one_step, more_steps, Body, one_sequence, more_sequences, Text, write_condition, write_step, write_sequence, write_body, write_text}
 use Rattle.text_grammar.specs.Texts.{max_text_length, Fits}
 use Rattle.text_grammar.specs.Lexer.{tokens}

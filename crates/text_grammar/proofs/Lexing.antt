@@ -9,7 +9,7 @@ use lib.Dec.{eqb}
 use borrow.Author.Tests.{eqb-true}
 use Rattle.base.specs.Lists.{all, same}
 use Rattle.base.proofs.Lists.{and_left, and_right, same_eq}
-use Rattle.text_grammar.specs.Characters.{bytes, is_blank, is_digit, is_word_byte}
+use Rattle.text_grammar.specs.Characters.{is_blank, is_digit, is_word_byte}
 use Rattle.text_grammar.specs.Tokens.{token_of}
 use Rattle.text_grammar.specs.Lexer.{joins, end_run, begin_run, tokens_after, tokens}
 

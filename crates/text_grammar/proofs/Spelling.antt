@@ -8,8 +8,8 @@ use lib.Dec.{eqb, leb}
 use borrow.Author.Tests.{eqb-true}
 use Rattle.base.specs.Lists.{all, nonempty, same}
 use Rattle.base.proofs.Lists.{and_left, and_right, same_eq}
-use Rattle.text_grammar.specs.Characters.{bytes, is_blank, is_digit, is_word_byte}
-use Rattle.text_grammar.specs.Tokens.{Mark, start_word, wait_word, maintain_word, repeat_word, if_word, then_word, else_word, equal_sign, differs_sign, at_least_sign, below_sign, semicolon, comma, opening, closing, colon, marks, Token, mark, number, variable, clock, unknown, spelling, is_number, numbered, named_token, token_among, token_of, is_known, is_apart, Spelled, ends, token}
+use Rattle.text_grammar.specs.Characters.{is_blank, is_digit, is_word_byte}
+use Rattle.text_grammar.specs.Tokens.{Mark, start_word, wait_word, maintain_word, repeat_word, if_word, then_word, else_word, equal_sign, differs_sign, at_least_sign, below_sign, semicolon, comma, opening, closing, colon, marks, Token, variable, clock, unknown, spelling, is_number, numbered, named_token, token_among, token_of, is_known, is_apart, Spelled, ends, token}
 use Rattle.text_grammar.specs.Lexer.{joins, end_run, tokens_after, tokens}
 use Rattle.text_grammar.proofs.Lexing.{impossible, blank_not_word, join_step, cut_again, blank_step, run_step, gap_law, begins_word, word_law, sign_law, pair_law}
 

@@ -1,6 +1,7 @@
 // The parts that a reader of a text stores in a lent buffer: a kind and an operand each. What lies beyond the buffer's end
 // is dropped.
 #![tactic(auto)]
+
 ghost use Rattle.std.specs.Prelude.{◌≡◌, [], ◌∷◌, ◌*◌, ◌/◌, ◌%◌, ◌≤◌, length};
 ghost use Rattle.std.proofs.lemmas.List.Edits.{sets};
 ghost use Rattle.meaning.specs.Kinds.{number_of};

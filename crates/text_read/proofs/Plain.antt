@@ -7,7 +7,7 @@ use lib.Seq.{sets}
 use native.Mathlib.Omega.{arith}
 use Rattle.meaning.specs.Sizes.{byte_values}
 use Rattle.meaning.specs.Kinds.{number_of}
-use Rattle.text_grammar.specs.Tokens.{Mark, equal_sign, differs_sign, at_least_sign, below_sign, opening, Token, mark, number, variable, clock}
+use Rattle.text_grammar.specs.Tokens.{Mark, equal_sign, differs_sign, at_least_sign, below_sign, opening, Token, mark}
 use Rattle.text_grammar.specs.Syntax.{Condition, variable_equals, variable_differs, clock_at_least, clock_below}
 use Rattle.text_grammar.specs.Trees.{operand_of, test_number, condition_operand}
 use Rattle.text_grammar.specs.Lexer.{tokens_from}

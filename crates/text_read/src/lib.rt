@@ -1,5 +1,6 @@
 // Reads a text: the parts that it means are stored in a lent buffer, one after the other.
 #![tactic(auto)]
+
 pub mod leaves;
 pub mod steps;
 pub mod texts;

@@ -1,7 +1,6 @@
 -- Where texts stop, computed: the mistakes that docs/TEXT.md lists, and the bounds. A place is one less than the column in the first line.
 use Prim.Native.Nat.{ℕ}
 use Prim.Native.Char.{code}
-use Prim.Native.String.{String}
 use mathlib.Core.Path.{refl}
 use mathlib.Core.List.{List, [], ◌∷◌, ◌++◌}
 use lib.ListN.{replicate}

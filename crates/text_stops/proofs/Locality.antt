@@ -149,7 +149,7 @@ module _ {A : Type 0} {h : List Token → List Token} {w : A → List Token → 
           rest = l.rest;
           all_are = rw append_assoc (ap (λ (us : List Token). before ++ us) l.all_are);
           same = λ us e. rw append_assoc (ap (λ (o : Parsed B). bind o f) (same (l.before ++ us) (first_same l us e)) ∙ l.same us e);
-          goes_on_lem = along w (λ us. rw append_assoc (ap h (c (l.before ++ us)))) l.found l.goes_on_lem;
+          goes_on_lem = along w {g = λ us. h (v b (l.before ++ us))} {h = λ us. h ((before ++ l.before) ++ us)} (λ us. rw append_assoc (ap h (c (l.before ++ us)))) l.found l.goes_on_lem;
         }
 
     pub local_bind : {v : B → List Token → List Token} {p : List Token → Parsed B} {ts : List Token}

@@ -1,10 +1,8 @@
 -- The place where a text stops fitting: inside the text, and what it means.
-use Prim.Native.Nat.{ℕ, ◌+◌, ◌≤◌, ◌<◌}
+use Prim.Native.Nat.{ℕ, ◌≤◌, ◌<◌}
 use mathlib.Core.Path.{◌≡◌, refl, ap, sym, subst, ◌∙◌}
-use mathlib.Core.Bool.{cond}
 use mathlib.Core.List.{List, [], ◌∷◌, ◌++◌, append_assoc}
-use mathlib.Core.Option.{Option, none}
-use lib.Dec.{leb}
+use mathlib.Core.Option.{none}
 use lib.ListN.{length, take, drop, length-append}
 use lib.Seq.{take_at, drop_at}
 use native.Mathlib.Omega.{arith}
@@ -16,7 +14,7 @@ use Rattle.text_grammar.specs.Texts.{max_text_length}
 use Rattle.text_grammar.specs.Lexer.{tokens, tokens_from}
 use Rattle.text_grammar.specs.Parser.{Parsed, got, stopped, parse_text, whole, reading}
 use Rattle.text_stops.specs.Places.{place_of_last, stop_of, stop_place}
-use Rattle.text_stops.specs.Stopping.{first_token, Stopping, StopsFitting}
+use Rattle.text_stops.specs.Stopping.{first_token, StopsFitting}
 use Rattle.text_stops.proofs.Places.{place_parted, Reached, last_reached}
 use Rattle.text_stops.proofs.Stopping.{text_stops}
 

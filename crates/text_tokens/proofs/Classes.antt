@@ -11,7 +11,7 @@ use borrow.Author.Tests.{ltb-true, ne_eqb}
 use Rattle.base.specs.Lists.{same}
 use Rattle.base.proofs.Lists.{and_left, and_right, cond_map, cond_cases, cond_same, same_eq}
 use Rattle.base.proofs.Stores.{take_rest}
-use Rattle.text_grammar.specs.Tokens.{Mark, start_word, wait_word, maintain_word, repeat_word, if_word, then_word, else_word, equal_sign, differs_sign, at_least_sign, below_sign, semicolon, comma, opening, closing, colon, mark, number, spelling, is_number, numbered, named_token, token_among, token_of}
+use Rattle.text_grammar.specs.Tokens.{Mark, start_word, wait_word, maintain_word, repeat_word, if_word, then_word, else_word, equal_sign, differs_sign, at_least_sign, below_sign, semicolon, comma, opening, closing, colon, number, spelling, is_number, numbered, named_token, token_among, token_of}
 use Rattle.text_tokens.specs.First.{mark_number, kind_number, mark_among, no_number, number_of}
 use Rattle.text_tokens.proofs.Decimals.{is_number_lem, no_number_lem}
 

@@ -2,7 +2,7 @@
 use Rattle.std.specs.Prelude.{ℕ, ◌-◌, ◌<◌, ◌≤◌, ◌≡◌, true, false, cond, ◌≢◌, List, [], ◌∷◌, length, get_or, take, drop}
 use Rattle.base.specs.Lists.{all, same}
 use Rattle.text_grammar.specs.Characters.{is_blank, is_word_byte}
-use Rattle.text_grammar.specs.Tokens.{Mark, start_word, wait_word, maintain_word, repeat_word, if_word, then_word, else_word, equal_sign, differs_sign, at_least_sign, below_sign, semicolon, comma, opening, closing, colon, Token, mark, number, variable, clock, unknown, spelling, decimal, max_number, is_number, token_of}
+use Rattle.text_grammar.specs.Tokens.{Mark, start_word, wait_word, maintain_word, repeat_word, if_word, then_word, else_word, equal_sign, differs_sign, at_least_sign, below_sign, semicolon, comma, opening, closing, colon, Token, mark, number, variable, clock, unknown, spelling, decimal, is_number, token_of}
 use Rattle.text_grammar.specs.Lexer.{tokens_from}
 use Rattle.text_stops.specs.Places.{cut_at}
 

@@ -1,5 +1,6 @@
 // Reads the tokens of a text: the kind, the value and the end of the first one from a place on.
 #![tactic(auto)]
+
 pub mod kinds;
 pub mod runs;
 
