@@ -2,7 +2,7 @@
 ghost use Rattle.std.specs.Prelude.{◌≡◌, true, ◌+◌, ◌<◌, ◌≤◌, length, get_or};
 ghost use Rattle.std.proofs.lemmas.List.Edits.{sets};
 ghost use Rattle.meaning.specs.Sizes.{max_value};
-ghost use Rattle.meaning.specs.Kinds.{GOAL, value};
+ghost use Rattle.meaning.specs.Kinds.{GOAL as goal_kind, value};
 ghost use Rattle.meaning.specs.Program.{parts, variables};
 ghost use Rattle.meaning.specs.Table.{is_table};
 ghost use Rattle.meaning.specs.Record.{marks_place, record_length, marks_in};
@@ -19,7 +19,7 @@ use program_walk::walker::entry_at;
 use run_record::fields::is_marked;
 
 fn is_goal(e: Entry) -> bool
-    ensures { result ≡ is_kind GOAL e }
+    ensures { result ≡ is_kind goal_kind e }
 {
     e.kind == GOAL
 }

@@ -2,7 +2,7 @@
 // the clocks as they were before the cycle.
 ghost use Rattle.std.specs.Prelude.{◌≡◌, true, ◌≤◌, length};
 ghost use Rattle.meaning.specs.Sizes.{max_clocks};
-ghost use Rattle.meaning.specs.Kinds.{CHOICE, kind_of, condition_allowed};
+ghost use Rattle.meaning.specs.Kinds.{CHOICE as choice_kind, kind_of, condition_allowed};
 ghost use Rattle.meaning.specs.Program.{variables, clocks, entry_allowed};
 ghost use Rattle.meaning.specs.Record.{record_length, last_time};
 ghost use Rattle.meaning.specs.Cycle.{ends_if, transition, situation};
@@ -29,7 +29,7 @@ fn of_choice(t: &[u8], r: &[u8], est: &[u8], o: Operand, before: bool, after: bo
     requires t_in_bounds { variables t.now ≤ length est.now }
     requires t_bound { clocks t.now ≤ max_clocks }
     requires o_value { condition_allowed (variables t.now) (clocks t.now) o ≡ true }
-    ensures { result ≡ transition (situation t.now r.now est.now (last_time r.now)) CHOICE o before after }
+    ensures { result ≡ transition (situation t.now r.now est.now (last_time r.now)) choice_kind o before after }
 {
     if before {
         return ends_if(!after);

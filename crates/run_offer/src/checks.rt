@@ -1,7 +1,7 @@
 // The check of the marked MAINTAINs: one that is violated loses every mark inside it.
 ghost use Rattle.std.specs.Prelude.{◌≡◌, true, ◌+◌, ◌<◌, ◌≤◌, length, get_or};
 ghost use Rattle.std.proofs.lemmas.List.Edits.{sets};
-ghost use Rattle.meaning.specs.Kinds.{MAINTAIN, condition_allowed};
+ghost use Rattle.meaning.specs.Kinds.{MAINTAIN as maintain_kind, condition_allowed};
 ghost use Rattle.meaning.specs.Program.{parts, variables, clocks};
 ghost use Rattle.meaning.specs.Table.{is_table};
 ghost use Rattle.meaning.specs.Conditions.{outcome};
@@ -19,7 +19,7 @@ use run_record::conditions::{is_violated, outcome};
 use run_record::fields::is_marked;
 
 fn is_maintain(e: Entry) -> bool
-    ensures { result ≡ is_kind MAINTAIN e }
+    ensures { result ≡ is_kind maintain_kind e }
 {
     e.kind == MAINTAIN
 }

@@ -1,0 +1,11 @@
+-- `settle_marks` meets its contract: at each turn the parts from p on are settled, and the lowest marked of them are known.
+use Prim.Native.Nat.{◌≤◌}
+use Rattle.meaning.specs.Program.{parts}
+use Rattle.run_marks.proofs.Settling.{Standing}
+use Rattle.run_marks.proofs.settled.settle_marks.Given as goal
+
+abbrev pub invariant-loop-p : goal.invariant-loop-p
+invariant-loop-p l = (l.p ≤ parts l.t) × Standing l.t l.r l.est l.initial.m l.p l.m l.low
+
+abbrev pub decreases-loop-p : goal.decreases-loop-p
+decreases-loop-p l = l.p
