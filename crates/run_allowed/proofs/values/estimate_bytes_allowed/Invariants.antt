@@ -1,0 +1,13 @@
+-- `estimate_bytes_allowed` meets its contract: at each turn the places passed and the places that are left all pass exactly where all places do.
+use Prim.Native.Nat.{◌-◌}
+use mathlib.Core.Path.{◌≡◌}
+use mathlib.Core.Bool.{◌&&◌}
+use Rattle.base.specs.Lists.{all_from}
+use Rattle.run_allowed.specs.Places.{estimate_at}
+use Rattle.run_allowed.proofs.values.estimate_bytes_allowed.Given as goal
+
+abbrev pub invariant-loop-i : goal.invariant-loop-i
+invariant-loop-i l = (l.all && all_from (estimate_at l.s) l.i (l.to - l.i)) ≡ all_from (estimate_at l.s) l.from (l.to - l.from)
+
+abbrev pub decreases-loop-i : goal.decreases-loop-i
+decreases-loop-i l = l.to - l.i
