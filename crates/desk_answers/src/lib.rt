@@ -1,6 +1,7 @@
 // The lines of answers, and that of a line that is no call. Each function writes from place i on, and
 // gives the place after what it has written.
 #![tactic(auto)]
+
 ghost use Rattle.std.specs.Prelude.{◌+◌, ◌<◌, ◌^◌, length};
 ghost use Rattle.base.specs.Lists.{bytes_at};
 ghost use Rattle.meaning.specs.Answers.{refusal_number, answer_number, offer_number, settle_number};

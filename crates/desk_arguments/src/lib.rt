@@ -1,6 +1,8 @@
 // What the arguments of the commands at the desk ask for, and what a command prints where it is given no file to work
 // on.
 #![tactic(auto)]
+
+pub mod arguments;
 pub mod messages;
 pub mod requests;
 

@@ -4,8 +4,8 @@ ghost use Rattle.std.specs.Prelude.{◌≡◌};
 ghost use Rattle.desk_arguments.specs.Requests.{is_cut, name_request, source_request, rehearse_request};
 
 use crate::Request;
+use crate::arguments::ENAMETOOLONG;
 use base::same;
-use libc::ENAMETOOLONG;
 
 // How many arguments there are with a file name, and with a word after it.
 const WITH_NAME: usize = 2;

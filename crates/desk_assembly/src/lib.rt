@@ -1,5 +1,6 @@
 // Assembles a text at the desk: its program file is written, or the words that say why the text is refused.
 #![tactic(auto)]
+
 ghost use Rattle.std.specs.Prelude.{◌≤◌, length};
 ghost use Rattle.meaning.specs.declared.Form.TheVariants.{File};
 ghost use Rattle.meaning.specs.Sizes.{max_parts, length_of};

@@ -1,5 +1,6 @@
 // Reads one line of a list of calls: `begin HEX`, `offer TIME`, `offer TIME LENGTH` or `settle HEX`.
 #![tactic(auto)]
+
 pub mod pieces;
 
 ghost use Rattle.std.specs.Prelude.{◌≡◌};

@@ -5,7 +5,7 @@ use mathlib.Core.Path.{◌≡◌, refl, sym, ◌∙◌, ap}
 use mathlib.Core.Bool.{Bool, true, false, not, true≢false}
 use mathlib.Core.List.{List}
 use lib.Dec.{ltb→lt}
-use lib.IntN.{ℤ, pos, negsuc}
+use lib.IntN.{ℤ, pos, negsuc, nat_abs}
 use mir.Syntax.{w32, w64}
 use mir.Val.{to_z, of_z, SFits}
 use mir.ValLaws.{to_z-of_z}
@@ -13,7 +13,6 @@ use lib.Signed.{lt_z}
 use lib.ListN.{length}
 use borrow.Author.Tests.{le-ltb, not-true, not-false}
 use borrow.Rule.Slice.PartMut.{put_mid, mid_of, mid_len, take_put}
-use Rattle.io.specs.Counts.{clamp_len}
 use Rattle.desk_input.specs.declared.Piece.{Piece}
 use Rattle.desk_input.specs.declared.Piece.TheVariants.{Failed, Held}
 use Rattle.desk_input.specs.Reading.{is_open, piece_of, Reads, Filled, none, more, Whole, full, ended, failed, FileRead, unopened, opened, FitsBuffer}
@@ -31,7 +30,7 @@ unfolding piece_of
 failed_of (pos k) n room h = absurd (omega (arith, ltb→lt k 0 (rw h tt)))
 failed_of (negsuc k) n room h = refl
 
-held_of : (got : ℤ) (n room k : ℕ) → lt_z got (pos 0) ≡ false → k ≡ clamp_len got room → Held (n + k) ≡ piece_of got n room
+held_of : (got : ℤ) (n room k : ℕ) → lt_z got (pos 0) ≡ false → k ≡ min (nat_abs got) room → Held (n + k) ≡ piece_of got n room
 unfolding piece_of
 held_of (pos j) n room k h e = ap (λ x. Held (n + x)) e
 held_of (negsuc j) n room k h e = absurd (true≢false h)
@@ -40,7 +39,7 @@ module _ (got : ℤ) (n room : ℕ) (fits : SFits w64 got) where
   pub piece_failed : lt_z (to_z w64 (of_z w64 got)) (pos 0) ≡ true → Failed ≡ piece_of got n room
   piece_failed h = failed_of got n room (rw (to_z-of_z w64 got fits) at h)
 
-  pub piece_held : (k : ℕ) → lt_z (to_z w64 (of_z w64 got)) (pos 0) ≡ false → k ≡ clamp_len (to_z w64 (of_z w64 got)) room → Held (n + k) ≡ piece_of got n room
+  pub piece_held : (k : ℕ) → lt_z (to_z w64 (of_z w64 got)) (pos 0) ≡ false → k ≡ min (nat_abs (to_z w64 (of_z w64 got))) room → Held (n + k) ≡ piece_of got n room
   piece_held k h e = held_of got n room k (rw (to_z-of_z w64 got fits) at h) (rw (to_z-of_z w64 got fits) at e)
 
 -- the buffer with what was read in the place of the bytes from place n on

@@ -1,5 +1,6 @@
 -- What reads come to: how many bytes a buffer holds then.
-use Rattle.std.specs.Prelude.{ℕ, ◌+◌, ◌-◌, ◌<◌, ◌≤◌, min, ◌≡◌, Bool, true, false, List, ℤ, pos, negsuc, length, take}
+use Rattle.std.specs.Prelude.{ℕ, ◌+◌, ◌-◌, ◌<◌, ◌≤◌, min, ◌≡◌, Bool, true, false, List, ℤ, pos, negsuc, length, take, Some, None}
+use Rattle.std.specs.declared.option.Option.{Option}
 use Rattle.desk_input.specs.declared.Piece.{Piece}
 use Rattle.desk_input.specs.declared.Piece.TheVariants.{Failed, Held}
 
@@ -7,6 +8,11 @@ use Rattle.desk_input.specs.declared.Piece.TheVariants.{Failed, Held}
 abbrev pub is_open : ℤ → Bool
 is_open (pos k) = true
 is_open (negsuc k) = false
+
+-- 0 stands for the descriptor of any open file
+abbrev pub descriptor_of : {F : Type 0} → Option F → ℤ
+descriptor_of (Some file) = pos 0
+descriptor_of None = negsuc 0
 
 -- what the answer of a read comes to, after n bytes and with so much room: negative where it failed, and else how many came
 unfoldable pub piece_of : ℤ → ℕ → ℕ → Piece

@@ -1,5 +1,6 @@
 // The text of a listing: the sizes and a line for each part, or the number of a refusal.
 #![tactic(auto)]
+
 pub mod lines;
 pub mod rows;
 

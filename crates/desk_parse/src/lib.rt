@@ -1,5 +1,6 @@
 // Reads words, which spaces separate, decimal numbers and pairs of hexadecimal digits.
 #![tactic(auto)]
+
 pub mod decimal;
 pub mod hexadecimal;
 

@@ -2,16 +2,13 @@
 use Prim.Native.Nat.{ℕ, ◌+◌, ◌<◌, ◌≤◌, ◌^◌}
 use native.Mathlib.Omega.{arith}
 use mathlib.Core.Path.{◌≡◌, refl}
-use mathlib.Core.List.{List, [], ◌∷◌}
+use mathlib.Core.List.{List}
 use lib.Dec.{eqb, ltb}
 use lib.ListN.{length}
-use denote.Enum.Declared.{tag_of}
-use types.Run.{OneOf, miss}
 use borrow.Author.Tests.{lt-ltb, le-ltb}
 use Rattle.meaning.specs.declared.Refusal.{Refusal}
 use Rattle.meaning.specs.declared.Refusal.TheVariants.{FileTooShort, SizeOutOfRange, WrongLength, UnknownKind, OperandNotAllowed, NotOneTree, TooDeep, BufferTooShort, NotATable, RecordNotAllowed, WrongPhase, TimeBeforeLast, EstimateNotAllowed, RunFinished, NothingAtWork, NotAText}
 use Rattle.meaning.specs.Answers.{refusal_number, size_out_of_range, operand_not_allowed, too_deep, not_a_text}
-use Rattle.meaning.specs.contracts.Refusal.{the_type}
 use Rattle.text_grammar.specs.Texts.{max_text_length}
 use Rattle.desk_format.specs.Decimal.{decimal}
 use Rattle.desk_format.specs.Words.{word}
@@ -84,35 +81,33 @@ said {text = text} {why = why} t place told is written =
     let whole = same_text text_is written in
     (whole, omega (arith, whole.after, words_fit (refusal_number why) t place))
 
--- and of one of the others, by their places in the list of refusals
-abbrev others : List ℕ
-others = 0 ∷ 2 ∷ 3 ∷ 5 ∷ 7 ∷ 8 ∷ 9 ∷ 10 ∷ 11 ∷ 12 ∷ 13 ∷ 14 ∷ []
-
-module _ (t : List ℕ) (place : ℕ) where
-  without_words : (why : Refusal) → OneOf others (tag_of the_type why) → refusal_text (refusal_number why) t place ≡ refused_text (refusal_number why)
+-- and of one of the others
+module _ (t : List ℕ) (place : ℕ) (why : Refusal) (size : why ≡ SizeOutOfRange → ⊥) (operand : why ≡ OperandNotAllowed → ⊥) (deep : why ≡ TooDeep → ⊥) (text : why ≡ NotAText → ⊥) where
+  without_words : (r : Refusal) → why ≡ r → refusal_text (refusal_number r) t place ≡ refused_text (refusal_number r)
   unfolding refusal_text
-  without_words FileTooShort k = refl
-  without_words SizeOutOfRange k = absurd (miss others 1 (tt {0}) k)
-  without_words WrongLength k = refl
-  without_words UnknownKind k = refl
-  without_words OperandNotAllowed k = absurd (miss others 4 (tt {0}) k)
-  without_words NotOneTree k = refl
-  without_words TooDeep k = absurd (miss others 6 (tt {0}) k)
-  without_words BufferTooShort k = refl
-  without_words NotATable k = refl
-  without_words RecordNotAllowed k = refl
-  without_words WrongPhase k = refl
-  without_words TimeBeforeLast k = refl
-  without_words EstimateNotAllowed k = refl
-  without_words RunFinished k = refl
-  without_words NothingAtWork k = refl
-  without_words NotAText k = absurd (miss others 15 (tt {0}) k)
+  without_words FileTooShort is = refl
+  without_words SizeOutOfRange is = absurd (size is)
+  without_words WrongLength is = refl
+  without_words UnknownKind is = refl
+  without_words OperandNotAllowed is = absurd (operand is)
+  without_words NotOneTree is = refl
+  without_words TooDeep is = absurd (deep is)
+  without_words BufferTooShort is = refl
+  without_words NotATable is = refl
+  without_words RecordNotAllowed is = refl
+  without_words WrongPhase is = refl
+  without_words TimeBeforeLast is = refl
+  without_words EstimateNotAllowed is = refl
+  without_words RunFinished is = refl
+  without_words NothingAtWork is = refl
+  without_words NotAText is = absurd (text is)
 
-  pub other_said : {l m : List ℕ} {e : ℕ} (why : Refusal) → OneOf others (tag_of the_type why) → Written (refused_text (refusal_number why)) l 0 m e
-      → Written (refusal_text (refusal_number why) t place) l 0 m e × (e ≤ max_words)
-  other_said why k written =
-      let whole = same_text (without_words why k) written in
-      (whole, omega (arith, whole.after, words_fit (refusal_number why) t place))
+  pub other_said : {l m : List ℕ} {e : ℕ} → Written (refused_text (refusal_number why)) l 0 m e → Written (refusal_text (refusal_number why) t place) l 0 m e
+  other_said written = same_text (without_words why refl) written
+
+-- each line fits its buffer
+pub said_fits : {l m : List ℕ} {e : ℕ} (n : ℕ) (t : List ℕ) (place : ℕ) → Written (refusal_text n t place) l 0 m e → e ≤ max_words
+said_fits n t place written = omega (arith, written.after, words_fit n t place)
 
 pub refused_room : (n : ℕ) → 0 + length (refused_text n) < 2 ^ 64
 refused_room n = omega (arith, refused_short n)

@@ -1,5 +1,5 @@
 -- No program file that is accepted is taken for a text, and every text that fits the grammar is.
-use Prim.Native.Nat.{ℕ, ◌+◌, ◌≤◌, ◌<◌}
+use Prim.Native.Nat.{ℕ, ◌≤◌, ◌<◌}
 use Prim.Native.Char.{code}
 use native.Mathlib.Decide.{dec_le}
 use native.Mathlib.Omega.{arith}

@@ -1,5 +1,6 @@
 // The lines that a rehearsal prints beside the answers: the marked parts under one, and the summary.
 #![tactic(auto)]
+
 mod fields;
 pub mod parts;
 pub mod summary;

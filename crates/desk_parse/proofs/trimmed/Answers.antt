@@ -1,0 +1,12 @@
+-- `trimmed` meets its contract: a text has no more spaces than bytes.
+use Rattle.desk_parse.proofs.Leading.{leading_within, after_spaces}
+use Rattle.desk_parse.proofs.trimmed.Goals as goal
+
+pub slice_bounds-result-count : goal.slice_bounds-result-count
+slice_bounds-result-count c = search leading_within
+
+pub slice_bounds-result-start : goal.slice_bounds-result-start
+slice_bounds-result-start c = search leading_within
+
+pub returns : goal.returns
+returns c = search after_spaces
