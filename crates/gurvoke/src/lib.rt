@@ -1,6 +1,7 @@
 // The C interface: the exported functions alone, each a call of the crate that does the work.
 // include/gurvoke.h documents them.
 #![tactic(auto)]
+
 ghost use Rattle.meaning.specs.Operations.{Compiled, Decompiled, Begun, Offered, Settled};
 ghost use Rattle.text_grammar.specs.Assembling.{Assembled};
 

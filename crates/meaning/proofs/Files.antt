@@ -18,7 +18,7 @@ use Rattle.meaning.specs.declared.Entry.{Entry}
 use Rattle.meaning.specs.declared.Form.{Form}
 use Rattle.meaning.specs.declared.Form.TheVariants.{File, Table}
 use Rattle.meaning.specs.Sizes.{max_parts, max_variables, max_clocks, max_depth, header_length, operand_length, length_of, operand_place, no_part, number_bytes, number_at, bytes_at}
-use Rattle.meaning.specs.Tree.{Part, kind, children, depth, size}
+use Rattle.meaning.specs.Tree.{Part, children, depth, size}
 use Rattle.meaning.specs.Program.{parts, variables, clocks, size_bytes, sizes_allowed, entry_at, entries, preorder, entry_known, entry_allowed, follow, trees, single, tree_of, is_tree, program_tests, program_refusal, Within, kind_byte, entry_operand, arrays, file_of}
 use Rattle.meaning.proofs.Trees.{All, part_ind, size_law, preorder_law, entry_of, length_preorder}
 use Rattle.meaning.proofs.Parsing.{kind_number_lem, known_kind, trees_alone, trees_are}

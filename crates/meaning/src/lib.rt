@@ -1,6 +1,7 @@
 // What a program file and its location table mean. The definitions stand in specs/, their laws in
 // proofs/; the types here are those that the definitions share with the code.
 #![tactic(auto)]
+
 pub mod kinds;
 pub mod sizes;
 

@@ -1,5 +1,6 @@
 // The operation that compiles: it writes the location table of a program file (1 to 8).
 #![tactic(auto)]
+
 ghost use Rattle.std.specs.Prelude.{◌≡◌, ◌≤◌, length};
 ghost use Rattle.std.proofs.lemmas.List.Edits.{sets};
 ghost use Rattle.meaning.specs.declared.Form.TheVariants.{File, Table};

@@ -1,5 +1,6 @@
 // The operation that decompiles: it writes the program file of a location table (9, 8).
 #![tactic(auto)]
+
 pub mod arrays;
 
 ghost use Rattle.std.specs.Prelude.{◌≡◌, ◌≤◌, length};

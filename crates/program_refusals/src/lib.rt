@@ -1,5 +1,6 @@
 // Whether bytes are a program file: the refusals 1 to 7.
 #![tactic(auto)]
+
 pub mod scan;
 
 ghost use Rattle.std.specs.Prelude.{◌≡◌, ◌≤◌, length};

@@ -1,5 +1,6 @@
 // The check of a location table: whether bytes are the table of some file (9).
 #![tactic(auto)]
+
 pub mod checking;
 
 ghost use Rattle.std.specs.Prelude.{◌≡◌};

@@ -1,5 +1,6 @@
 // Whether a run record is allowed (10), whether its run goes on (9, 10, 14), and whether an estimate is allowed (13).
 #![tactic(auto)]
+
 pub mod marks;
 pub mod values;
 

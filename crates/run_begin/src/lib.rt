@@ -1,6 +1,7 @@
 // The operation that begins a run: its refusals (9, 13, 8), and a record in which the root, and what begins with it, is
 // marked.
 #![tactic(auto)]
+
 ghost use Rattle.std.specs.Prelude.{◌≡◌, length};
 ghost use Rattle.meaning.specs.Cycle.{begin_refusal, begun_into};
 ghost use Rattle.meaning.specs.Answers.{answer_number};

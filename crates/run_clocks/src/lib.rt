@@ -1,5 +1,6 @@
 // The clocks at a settling: every marked START sets its clock to the last time, started or not.
 #![tactic(auto)]
+
 ghost use Rattle.std.specs.Prelude.{◌≡◌, true, ◌<◌, ◌≤◌, length};
 ghost use Rattle.meaning.specs.Sizes.{max_clocks};
 ghost use Rattle.meaning.specs.Program.{parts};

@@ -1,5 +1,6 @@
 // Initialising a part: it is marked, and with it the parts inside that begin when it does.
 #![tactic(auto)]
+
 ghost use Rattle.std.specs.Prelude.{◌≡◌, true, ◌+◌, ◌<◌, ◌≤◌, length};
 ghost use Rattle.std.proofs.lemmas.List.Edits.{sets};
 ghost use Rattle.meaning.specs.Kinds.{kind_of};

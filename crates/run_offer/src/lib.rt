@@ -1,6 +1,7 @@
 // The operation that makes an offer: its refusals (9, 10, 14, 11, 12, 8), the MAINTAINs checked, the goal bytes written,
 // the lowest contested variable named.
 #![tactic(auto)]
+
 pub mod checks;
 
 ghost use Rattle.std.specs.Prelude.{◌≡◌, true, ◌+◌, ◌≤◌, length};

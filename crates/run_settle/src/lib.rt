@@ -1,5 +1,6 @@
 // The operation that settles a cycle: its refusals (9, 10, 14, 11, 13, 15), and the record written.
 #![tactic(auto)]
+
 pub mod works;
 
 ghost use Rattle.std.specs.Prelude.{◌≡◌, true, cond, ◌≤◌, length};

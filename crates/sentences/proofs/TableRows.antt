@@ -17,7 +17,7 @@ use Rattle.meaning.specs.declared.Form.{Form}
 use Rattle.meaning.specs.declared.Form.TheVariants.{File, Table}
 use Rattle.meaning.specs.Sizes.{max_parts, no_part, header_length}
 use Rattle.meaning.specs.Kinds.{Kind, UNKNOWN, GOAL, START, WAIT, SEQ, PAR, MAINTAIN, CHOICE, REPEAT, arity}
-use Rattle.meaning.specs.Tree.{Part, kind, children, operand, size}
+use Rattle.meaning.specs.Tree.{Part, kind, children, size}
 use Rattle.meaning.specs.Program.{parts, entry_at, entries}
 use Rattle.meaning.specs.Table.{next_of, block, end_at, parent_at, next_at, kind_at, operand_of, Inside, file_in, is_table}
 use Rattle.meaning.proofs.Trees.{inner, size_law, size_inner}

@@ -13,14 +13,13 @@ initialise_step-skip-requires-clause-p_bound c =
     turn_there _ _ c.requires.t_value c.requires.q_bound _ _ c.end_at-p-end.ensures c.loop-p-test.true
 
 pub loop-p-preserved : goal.loop-p-preserved
-loop-p-preserved c =
- (
-      search rules,
-      (
-        c.initialise_step-skip.auto.m ∙ c.loop-p.invariant.1.0,
-        initial_next _ _ _ _ _ _ _ _ _ c.loop-p-test.true c.initialise_step-skip.ensures c.loop-p.invariant.1.1,
-      ),
-    )
+loop-p-preserved c = (
+  search rules,
+  (
+    c.initialise_step-skip.auto.m ∙ c.loop-p.invariant.1.0,
+    initial_next _ _ _ _ _ _ _ _ _ c.loop-p-test.true c.initialise_step-skip.ensures c.loop-p.invariant.1.1,
+  ),
+)
 
 pub returns : goal.returns
 returns c =
