@@ -1,5 +1,6 @@
 // One line of a rehearsal: it is read, its call is made, and the answer is written.
 #![tactic(auto)]
+
 pub mod opening;
 pub mod parsing;
 

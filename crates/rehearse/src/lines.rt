@@ -8,7 +8,6 @@ use desk_input::{Piece, read_piece};
 use desk_output::print;
 use desk_rehearsal::{MAX_LINE, answer_line, summarise};
 use desk_transcript::{MAX_ANSWER, MAX_SUMMARY};
-use libc::STDIN_FILENO;
 use meaning::sizes::RECORD;
 
 // The state of a rehearsal. The input buffer holds `held` bytes, of which those from place `from` on are still to be
@@ -25,13 +24,21 @@ struct Stand {
 }
 
 // Answers a line and prints the answer. The next line begins at place `from`.
-fn answer(t: &[u8], r: &mut [u8], asked: bool, line: &[u8], s: Stand, from: usize) -> Stand
+fn answer(
+    rt: &HostRuntime,
+    t: &[u8],
+    r: &mut [u8],
+    asked: bool,
+    line: &[u8],
+    s: Stand,
+    from: usize,
+) -> Stand
     ensures { Goes t.now r.old asked line.now s from r.new result }
 {
     let mut text = [0u8; MAX_ANSWER];
     let number = one_more(s.number);
     let turn = answer_line(t, r, s.cycles, number, asked, line, &mut text);
-    let is_printed = print(&text, turn.length);
+    let is_printed = print(rt, &rt.stderr(), &text, turn.length);
     Stand {
         from: from,
         held: s.held,
@@ -86,23 +93,31 @@ fn read_to(s: Stand, k: usize, going: bool) -> Stand
 
 // Reads more input after the first n bytes of the buffer. Where the input has ended, these bytes are its last line,
 // and are answered.
-fn read_on(t: &[u8], r: &mut [u8], asked: bool, input: &mut [u8], s: Stand, n: usize) -> Stand
+fn read_on(
+    rt: &HostRuntime,
+    t: &[u8],
+    r: &mut [u8],
+    asked: bool,
+    input: &mut [u8],
+    s: Stand,
+    n: usize,
+) -> Stand
     requires { n ≤ length input.old }
     ensures { ReadsOn t.now r.old asked input.old s n r.new input.new result }
 {
-    let piece = read_piece(STDIN_FILENO, b"standard input", input, n);
+    let piece = read_piece(&mut rt.stdin(), &rt.stderr(), b"standard input", input, n);
     let Piece::Held(k) = piece else {
         return read_to(s, n, false);
     };
     if n < k {
         return read_to(s, k, true);
     }
-    ended(answer(t, r, asked, &input[..n], s, 0))
+    ended(answer(rt, t, r, asked, &input[..n], s, 0))
 }
 
 // Answers the next line, or reads more input where the line does not end in the buffer. Where the buffer is full, the
 // line is too long, and is answered without its end.
-fn turn(t: &[u8], r: &mut [u8], asked: bool, input: &mut [u8], s: Stand) -> Stand
+fn turn(rt: &HostRuntime, t: &[u8], r: &mut [u8], asked: bool, input: &mut [u8], s: Stand) -> Stand
     requires { (s.from ≤ s.held) × (s.held ≤ length input.old) }
     ensures { Takes t.now r.old asked input.old s r.new input.new result }
 {
@@ -110,42 +125,42 @@ fn turn(t: &[u8], r: &mut [u8], asked: bool, input: &mut [u8], s: Stand) -> Stan
     let held = s.held;
     let end = line_end(input, from, held);
     if end < held {
-        return answer(t, r, asked, &input[from..end], s, end + 1);
+        return answer(rt, t, r, asked, &input[from..end], s, end + 1);
     }
     if held - from == input.len() {
-        return answer(t, r, asked, &input[from..held], s, held);
+        return answer(rt, t, r, asked, &input[from..held], s, held);
     }
     shift(input, from, held);
-    read_on(t, r, asked, input, s, held - from)
+    read_on(rt, t, r, asked, input, s, held - from)
 }
 
 // Takes turns until the run ends. A proved loop has to end, but the input need not; so the turns are counted down, from
 // a number that is too large to be used up.
-fn run(t: &[u8], r: &mut [u8], asked: bool, input: &mut [u8]) -> Stand
+fn run(rt: &HostRuntime, t: &[u8], r: &mut [u8], asked: bool, input: &mut [u8]) -> Stand
     ensures { Runs t.now r.old asked input.old r.new input.new result }
 {
     let mut s = start();
     let mut turns = u64::MAX;
     while turns > 0 && s.going {
-        s = turn(t, r, asked, input, s);
+        s = turn(rt, t, r, asked, input, s);
         turns -= 1;
     }
     s
 }
 
 // Answers every line of standard input, and then prints the summary.
-pub(crate) fn rehearse(t: &[u8], asked: bool) {
+pub(crate) fn rehearse(rt: &HostRuntime, t: &[u8], asked: bool) {
     let mut r = [0u8; RECORD];
     let mut input = [0u8; MAX_LINE + 1];
-    let s = run(t, &mut r, asked, &mut input);
+    let s = run(rt, t, &mut r, asked, &mut input);
     if s.complete {
-        print_summary(t, &r, s.cycles);
+        print_summary(rt, t, &r, s.cycles);
     }
 }
 
 // Prints the summary of a run.
-fn print_summary(t: &[u8], r: &[u8], cycles: u64) {
+fn print_summary(rt: &HostRuntime, t: &[u8], r: &[u8], cycles: u64) {
     let mut text = [0u8; MAX_SUMMARY];
     let n = summarise(t, r, cycles, &mut text);
-    print(&text, n);
+    print(rt, &rt.stderr(), &text, n);
 }

@@ -3,10 +3,12 @@
 // file or a text. What a line comes to stands in `desk_rehearsal`, what a text comes to in `desk_assembly`, and what the
 // arguments ask for in `desk_arguments`; here are reads and writes.
 #![tactic(auto)]
+
 mod lines;
 
 use crate::lines::rehearse;
 use desk_answers::write_refused;
+use desk_arguments::arguments::{argument_count, read_argument};
 use desk_arguments::requests::{is_cut, rehearse_request};
 use desk_arguments::{Command, MAX_PATH, Request};
 use desk_assembly::assemble_text;
@@ -29,71 +31,72 @@ const WORD: usize = 2;
 const MAX_WORD: usize = 5;
 
 // Rehearses the program of a file, or prints why it is refused.
-fn rehearse_program(file: &[u8], with_parts: bool) {
+fn rehearse_program(rt: &HostRuntime, file: &[u8], with_parts: bool) {
     let mut table = [0u8; MAX_TABLE];
     let mut text = [0u8; MAX_ANSWER];
     let opened = open_program(file, &mut table, &mut text);
     let n = opened.length;
     if opened.accepted {
-        rehearse(&table[..n], with_parts);
+        rehearse(rt, &table[..n], with_parts);
     } else {
-        print(&text, n);
+        print(rt, &rt.stderr(), &text, n);
     }
 }
 
 // Prints the number of a refusal.
-fn print_refusal(why: Refusal) {
+fn print_refusal(rt: &HostRuntime, why: Refusal) {
     let mut text = [0u8; MAX_ANSWER];
     let n = write_refused(why, &mut text, 0);
-    print(&text, n);
+    print(rt, &rt.stderr(), &text, n);
 }
 
 // Rehearses the program that a text means, or prints why the text is refused: the number as of a file, and the words on
 // standard error.
-fn rehearse_text(text: &[u8], with_parts: bool) {
+fn rehearse_text(rt: &HostRuntime, text: &[u8], with_parts: bool) {
     let mut file = [0u8; MAX_FILE];
     let mut words = [0u8; MAX_WORDS];
     let assembly = assemble_text(text, &mut file, &mut words);
     let answer = assembly.answer;
     let n = assembly.length;
     match answer {
-        Answer::Done => rehearse_program(&file[..n], with_parts),
+        Answer::Done => rehearse_program(rt, &file[..n], with_parts),
         Answer::Refused(why) => {
-            print_refusal(why);
-            print_error(&words, n);
+            print_refusal(rt, why);
+            print_error(&rt.stderr(), &words, n);
         }
     }
 }
 
 // Rehearses the program of an input, which is a program file or a text.
-fn rehearse_input(input: &[u8], with_parts: bool) {
+fn rehearse_input(rt: &HostRuntime, input: &[u8], with_parts: bool) {
     if is_text(input) {
-        rehearse_text(input, with_parts);
+        rehearse_text(rt, input, with_parts);
     } else {
-        rehearse_program(input, with_parts);
+        rehearse_program(rt, input, with_parts);
     }
 }
 
 // Reads the program. The buffer has room for one byte more than the longest text, so that a longer one is too long here
 // too and is refused; a program file is shorter.
-fn rehearse_file(path: &[u8], with_parts: bool) {
+fn rehearse_file(rt: &HostRuntime, path: &[u8], with_parts: bool) {
     let mut input = [0u8; MAX_TEXT + 1];
-    let piece = read_file(path, &mut input);
+    let piece = read_file(rt, &rt.stderr(), path, &mut input);
     if let Piece::Held(n) = piece {
-        rehearse_input(&input[..n], with_parts);
+        rehearse_input(rt, &input[..n], with_parts);
     }
 }
 
-fn main() {
+fn main(rt: HostRuntime) {
     let mut name = [0u8; MAX_PATH];
-    let n = os::arg(NAME, &mut name);
-    let cut = is_cut(os::errno());
+    let argument = read_argument(&rt, NAME, &mut name);
+    let n = argument.length;
+    let cut = is_cut(argument.error);
     let mut word = [0u8; MAX_WORD];
-    let k = os::arg(WORD, &mut word);
-    let request = rehearse_request(os::arg_count(), &name[..n], cut, &word[..k]);
+    let k = read_argument(&rt, WORD, &mut word).length;
+    let request = rehearse_request(argument_count(&rt), &name[..n], cut, &word[..k]);
     match request {
-        Request::File => rehearse_file(&name[..n], false),
-        Request::FileWithParts => rehearse_file(&name[..n], true),
-        _ => print_message(Command::Rehearse, request),
+        Request::File => rehearse_file(&rt, &name[..n], false),
+        Request::FileWithParts => rehearse_file(&rt, &name[..n], true),
+        _ => print_message(&rt, &rt.stderr(), Command::Rehearse, request),
     }
 }

@@ -1,0 +1,15 @@
+-- `rehearse_program` is safe: the table of an accepted file, and the text of a refusal, lie within their buffers.
+use native.Mathlib.Omega.{arith}
+use lib.ListN.{length-take}
+use Rattle.desk_rehearsal.proofs.Opens.{opened_fits, refusal_fits}
+use Rattle.rehearse.proofs.rehearse_program.Goals as goal
+
+pub slice_bounds-table-end : goal.slice_bounds-table-end
+slice_bounds-table-end c = search opened_fits
+
+pub slice_bounds-rehearse-end : goal.slice_bounds-rehearse-end
+slice_bounds-rehearse-end c =
+    simp length-take (omega (arith, opened_fits _ _ _ _ _ _ c.open_program-opened.ensures c.if-opened.true))
+
+pub print-requires : goal.print-requires
+print-requires c = omega (arith, refusal_fits _ _ _ _ _ _ c.open_program-opened.ensures c.if-opened.false)
