@@ -28,7 +28,7 @@
  *   table (GURVOKE_RECORD_NOT_ALLOWED); elsewhere the call goes on with what the marks mean there.
  *
  * Processors
- *   The archive that `rt staticlib gurvoke` writes is for x86-64: ELF objects with the System V
+ *   The archive that `rt lib` writes in crates/gurvoke is for x86-64: ELF objects with the System V
  *   calling convention, and no instructions beyond those that every x86-64 processor has. This
  *   header, the bytes of files, tables and records, and the answers are the same on any processor.
  *
