@@ -10,7 +10,7 @@ use super::{all, renewed};
 const FOLDERS: [&str; 5] = ["crates", "docs", "examples", "include", "rust"];
 
 /// Signs of a path that stands for several, or that is made by building.
-const PATTERN_SIGNS: [&str; 3] = ["*", "NAME", "target/"];
+const PATTERN_SIGNS: [&str; 4] = ["*", "NAME", "target/", "/out/"];
 
 /// The layers of the crates, each by the first words of its crates, the lowest first.
 const LAYERS: [&[&str]; 7] = [
@@ -22,9 +22,6 @@ const LAYERS: [&[&str]; 7] = [
     &["desk"],
     &["gurvoke", "assemble", "listing", "rehearse"],
 ];
-
-/// Libraries of the toolchain, which are no crates of the repository.
-const TOOLCHAIN: [&str; 3] = ["os", "io", "libc"];
 
 /// Characters of the longest line that is no row of a table and no line of a sample.
 const MAX_LINE: usize = 120;
@@ -150,13 +147,12 @@ fn layer(name: &str) -> usize {
 #[test]
 fn crates_use_lower_layers() {
     let repository = Repository::here();
-    let mut before: Vec<&str> = TOOLCHAIN.to_vec();
+    let mut before: Vec<&str> = Vec::new();
     for each in &repository.crates {
         for used in &each.uses {
             let name = &each.name;
             assert!(before.contains(&&**used), "{name} stands before {used}");
-            let is_lower = TOOLCHAIN.contains(&&**used) || layer(used) <= layer(name);
-            assert!(is_lower, "{name} uses {used}");
+            assert!(layer(used) <= layer(name), "{name} uses {used}");
         }
         before.push(&each.name);
     }
