@@ -1,4 +1,5 @@
-//! Links the static library that `rt lib` writes in crates/gurvoke, and the plain executive in C.
+//! Links the static library that `rt lib --cpu=x86-64` writes in crates/gurvoke, and the plain
+//! executive in C.
 
 use std::env;
 use std::path::Path;
@@ -21,7 +22,7 @@ fn link_library() {
     println!("cargo::rerun-if-changed={}", library.display());
     if !library.is_file() {
         println!(
-            "cargo::error={} is missing: run `rt lib` in crates/gurvoke",
+            "cargo::error={} is missing: run `rt lib --cpu=x86-64` in crates/gurvoke",
             library.display()
         );
         return;

@@ -64,7 +64,7 @@ fn paths_are_there() {
     assert!(seen > 100, "only {seen} paths are named");
 }
 
-/// Whether a word has the form of a name of the crates: `read_line`, `base::at`, `whole-reached`, `Demands.Demand3`,
+/// Whether a word has the form of a name of the crates: `read_line`, `base::at`, `whole_reached`, `Demands.Demand3`,
 /// `treeOf`.
 fn is_name(word: &str) -> bool {
     let parts: Vec<&str> = word.split(['_', '-', ':', '.']).collect();
@@ -229,12 +229,12 @@ fn wrong_places_are_noticed() {
     let new = text.replacen("Sizes.antt:", "Sizes.antt:1", 1);
     assert!(renewed(&repository, &new) == renewed(&repository, &text));
 
-    let new = text.replacen("| `maxParts` |", "| `mostParts` |", 1);
-    assert!(fault(&new).contains("mostParts is declared nowhere"));
+    let new = text.replacen("| `max_parts` |", "| `most_parts` |", 1);
+    assert!(fault(&new).contains("most_parts is declared nowhere"));
     let new = text.replacen("| `Outcome` |", "| `Outcomes` |", 1);
     assert!(fault(&new).contains("Outcomes is declared nowhere"));
-    let new = text.replacen("`seq-one`", "`seq-two`", 1);
-    assert!(fault(&new).contains("seq-two is declared nowhere"));
+    let new = text.replacen("`seq_one`", "`seq_two`", 1);
+    assert!(fault(&new).contains("seq_two is declared nowhere"));
     let new = text.replacen(
         "`ended_branch_taken_for_deciding`",
         "`ended_branch_taken`",
@@ -242,11 +242,11 @@ fn wrong_places_are_noticed() {
     );
     assert!(fault(&new).contains("ended_branch_taken is declared nowhere"));
     let new = text.replacen(
-        "`Refusals.offer-refused`, `goals",
-        "`offer-refused`, `goals",
+        "`Refusals.offer_refused`, `goals",
+        "`offer_refused`, `goals",
         1,
     );
-    assert!(fault(&new).contains("offer-refused is declared in crates/"));
+    assert!(fault(&new).contains("offer_refused is declared in crates/"));
 }
 
 /// A crate or an edit that is left out comes back, and one that is not there goes.
