@@ -10,6 +10,9 @@ use super::declarations::{is_place, named, KINDS};
 /// Folders that the registers read.
 const SOURCES: [&str; 2] = ["crates", "rust/tests"];
 
+/// The note on the port to today's Rattle.
+const PORT: &str = "docs/PORT.md";
+
 /// The folder of a crate in which rt keeps what it makes.
 const MADE: &str = "out";
 
@@ -94,14 +97,17 @@ impl Repository {
     /// The paths of all documents that say how things are.
     pub fn documents(&self) -> Vec<String> {
         let mut found = self.texts("docs");
+        found.retain(|path| path != PORT);
         found.push("README.md".to_string());
         found
     }
 
-    /// The paths of the notes on requests: what they name was there when they were written.
+    /// The paths of the notes on requests and on the port: what they name was there when they were written.
     #[cfg(test)]
     pub fn notes(&self) -> Vec<String> {
-        self.texts("docs/requests")
+        let mut found = self.texts("docs/requests");
+        found.push(PORT.to_string());
+        found
     }
 
     fn texts(&self, folder: &str) -> Vec<String> {
