@@ -10,7 +10,7 @@ use super::declarations::{is_place, named, KINDS};
 /// Folders that the registers read.
 const SOURCES: [&str; 2] = ["crates", "rust/tests"];
 
-/// The note on the port to today's Rattle.
+/// The note on the port to today's Rattle, which names what was there before.
 const PORT: &str = "docs/PORT.md";
 
 /// The folder of a crate in which rt keeps what it makes.
@@ -102,12 +102,10 @@ impl Repository {
         found
     }
 
-    /// The paths of the notes on requests and on the port: what they name was there when they were written.
+    /// The paths of the notes on requests: what they name was there when they were written.
     #[cfg(test)]
     pub fn notes(&self) -> Vec<String> {
-        let mut found = self.texts("docs/requests");
-        found.push(PORT.to_string());
-        found
+        self.texts("docs/requests")
     }
 
     fn texts(&self, folder: &str) -> Vec<String> {
