@@ -28,9 +28,10 @@
  *   table (GURVOKE_RECORD_NOT_ALLOWED); elsewhere the call goes on with what the marks mean there.
  *
  * Processors
- *   The archive that `rt staticlib gurvoke` writes is for x86-64: ELF objects with the System V
- *   calling convention, and no instructions beyond those that every x86-64 processor has. This
- *   header, the bytes of files, tables and records, and the answers are the same on any processor.
+ *   The archive that `rt lib --cpu=x86-64` writes in crates/gurvoke is for x86-64: ELF objects with
+ *   the System V calling convention, and no instructions beyond those that every x86-64 processor
+ *   has. Without the flag it needs x86-64-v2. This header, the bytes of files, tables and records,
+ *   and the answers are the same on any processor.
  *
  * Threads and interrupts
  *   Calls may run at the same time, in threads or in interrupts, if no buffer that one of them

@@ -1,5 +1,5 @@
-//! Links the static library that `rt staticlib gurvoke` writes at the top of the repository, and
-//! the plain executive in C.
+//! Links the static library that `rt lib --cpu=x86-64` writes in crates/gurvoke, and the plain
+//! executive in C.
 
 use std::env;
 use std::path::Path;
@@ -16,13 +16,13 @@ fn main() {
 
 fn link_library() {
     let package = env::var("CARGO_MANIFEST_DIR").expect("cargo sets CARGO_MANIFEST_DIR");
-    let folder = Path::new(&package).join("../target/staticlib");
+    let folder = Path::new(&package).join("../crates/gurvoke/out");
     let library = folder.join("libgurvoke.a");
 
     println!("cargo::rerun-if-changed={}", library.display());
     if !library.is_file() {
         println!(
-            "cargo::error={} is missing: run `rt staticlib gurvoke` at the top of the repository",
+            "cargo::error={} is missing: run `rt lib --cpu=x86-64` in crates/gurvoke",
             library.display()
         );
         return;

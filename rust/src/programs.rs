@@ -11,7 +11,7 @@ use std::{env, fs, process};
 /// For a program that is started with its name alone.
 pub const NO_ARGUMENTS: &[&str] = &[];
 
-/// A program that `rt check` builds.
+/// A program of the repository, as `rt ci` or `rt run` builds it.
 pub struct Program {
     name: &'static str,
 }
@@ -24,13 +24,7 @@ impl Program {
 
     /// Starts the program. What it says on standard error is for people, and not compared.
     fn start<A: AsRef<OsStr>>(&self, arguments: &[A]) -> Child {
-        let path = self.path();
-        assert!(
-            path.is_file(),
-            "{} is missing: run `rt check {}` at the top of the repository",
-            path.display(),
-            self.name
-        );
+        let path = path_of(self.name);
         Command::new(&path)
             .args(arguments)
             .stdin(Stdio::piped())
@@ -63,11 +57,18 @@ impl Program {
         child.wait().expect("the program ends");
         text.expect("the output is text")
     }
+}
 
-    fn path(&self) -> PathBuf {
-        let folder = Path::new(env!("CARGO_MANIFEST_DIR")).join("../target/bin");
-        folder.join(self.name)
-    }
+/// The executable of the program with this name, which must be there.
+pub fn path_of(name: &str) -> PathBuf {
+    let crates = Path::new(env!("CARGO_MANIFEST_DIR")).join("../crates");
+    let path = crates.join(name).join("out").join(name);
+    assert!(
+        path.is_file(),
+        "{} is missing: run `rt ci` at the top of the repository, or `rt run` in crates/{name}",
+        path.display()
+    );
+    path
 }
 
 /// Writes to a program, which need not read more than it wants.

@@ -6,7 +6,7 @@ use std::path::Path;
 use std::process::{Command, Output, Stdio};
 
 use gurvoke::counts::{assert_counts, named};
-use gurvoke::programs::{Program, TemporaryFile};
+use gurvoke::programs::{path_of, Program, TemporaryFile};
 use gurvoke::refusals::{NOT_A_TEXT, OPERAND_NOT_ALLOWED, SIZE_OUT_OF_RANGE, TOO_DEEP};
 use gurvoke::rng::Rng;
 use gurvoke::stations::{STATION_10, STATION_10_LISTING};
@@ -20,8 +20,7 @@ const REHEARSE: Program = Program::named("rehearse");
 /// What a program prints with this text as its file, or on standard input where `named` is false.
 fn printed(program: &str, text: &[u8], named: bool) -> Output {
     let file = TemporaryFile::holding(text);
-    let folder = Path::new(env!("CARGO_MANIFEST_DIR")).join("../target/bin");
-    let mut command = Command::new(folder.join(program));
+    let mut command = Command::new(path_of(program));
     if named {
         command.arg(file.path()).stdin(Stdio::null());
     } else {

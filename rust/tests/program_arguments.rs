@@ -5,7 +5,7 @@ use std::path::Path;
 use std::process::{Command, Stdio};
 use std::{env, str};
 
-use gurvoke::programs::{free_path, TemporaryFile};
+use gurvoke::programs::{free_path, path_of, TemporaryFile};
 use gurvoke::stations::{STATION_10, STATION_10_LISTING};
 
 const LISTING_USAGE: &str = "usage: listing [PROGRAM]\n";
@@ -28,14 +28,7 @@ finishing cycle -
 
 /// A program, with arguments and with nothing on standard input.
 fn program(name: &str, arguments: &[&str]) -> Command {
-    let folder = Path::new(env!("CARGO_MANIFEST_DIR")).join("../target/bin");
-    let path = folder.join(name);
-    assert!(
-        path.is_file(),
-        "{} is missing: run `rt check {name}`",
-        path.display()
-    );
-    let mut command = Command::new(path);
+    let mut command = Command::new(path_of(name));
     command.args(arguments).stdin(Stdio::null());
     command
 }

@@ -3,9 +3,6 @@
 use super::repository::{Repository, Source};
 use super::tables::{grouped, head, row};
 
-/// What a proof by hand imports, and no other: it goes through the compiled function step by step.
-const BY_HAND: &str = "\nuse mir.";
-
 /// A row about files: how many, and how many lines they have together.
 fn files_row<F>(repository: &Repository, what: &str, is_one: F) -> String
 where
@@ -18,10 +15,6 @@ where
         .collect();
     let lines = files.iter().map(|file| file.lines()).sum();
     row(&[what, &grouped(files.len()), &grouped(lines)])
-}
-
-fn is_answer(file: &Source) -> bool {
-    file.path.ends_with("/Proof.antt")
 }
 
 /// The counts of a thing that has no lines of its own.
@@ -64,14 +57,14 @@ pub fn table(repository: &Repository) -> String {
         file.folder() == Some("specs")
     });
     text += &files_row(repository, "files of laws", |file| {
-        file.folder() == Some("proofs") && !is_answer(file)
+        file.folder() == Some("proofs") && file.proof().is_none()
     });
-    text += &files_row(repository, "proofs of functions", is_answer);
-    text += &files_row(
-        repository,
-        "of these, by hand, of the functions with a walker",
-        |file| is_answer(file) && file.text.contains(BY_HAND),
-    );
+    text += &files_row(repository, "files of loops' invariants", |file| {
+        file.proof() == Some("Invariants.antt")
+    });
+    text += &files_row(repository, "files of answers to open goals", |file| {
+        file.proof() == Some("Answers.antt")
+    });
     text += &plain_row("must-fail edits", edits.count());
     text += &plain_row("Rust tests", tests(repository));
     text

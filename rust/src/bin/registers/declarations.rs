@@ -57,10 +57,7 @@ impl Declaration {
     }
 }
 
-/// Files of answers to the checker declare nothing that a document names.
-const ANSWERS: &str = "/Proof.antt";
-
-/// Everything that the crates declare.
+/// Everything that the crates declare. The files of a function's proof declare nothing that a document names.
 pub fn all(sources: &[Source]) -> Vec<Declaration> {
     let mut found = Vec::new();
     for source in sources {
@@ -70,7 +67,7 @@ pub fn all(sources: &[Source]) -> Vec<Declaration> {
         let (module, names) = match folder {
             "src" => (source.stem(), items(&source.text)),
             "specs" => (source.stem(), definitions(&source.text, Kind::Definition)),
-            "proofs" if source.path.ends_with(ANSWERS) => continue,
+            "proofs" if source.proof().is_some() => continue,
             "proofs" => (source.stem(), definitions(&source.text, Kind::Law)),
             "must-fail" => (folder, vec![edit(source)]),
             _ => continue,

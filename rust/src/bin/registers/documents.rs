@@ -10,7 +10,7 @@ use super::{all, renewed};
 const FOLDERS: [&str; 5] = ["crates", "docs", "examples", "include", "rust"];
 
 /// Signs of a path that stands for several, or that is made by building.
-const PATTERN_SIGNS: [&str; 3] = ["*", "NAME", "target/"];
+const PATTERN_SIGNS: [&str; 4] = ["*", "NAME", "target/", "/out/"];
 
 /// The layers of the crates, each by the first words of its crates, the lowest first.
 const LAYERS: [&[&str]; 7] = [
@@ -22,9 +22,6 @@ const LAYERS: [&[&str]; 7] = [
     &["desk"],
     &["gurvoke", "assemble", "listing", "rehearse"],
 ];
-
-/// Libraries of the toolchain, which are no crates of the repository.
-const TOOLCHAIN: [&str; 3] = ["os", "io", "libc"];
 
 /// Characters of the longest line that is no row of a table and no line of a sample.
 const MAX_LINE: usize = 120;
@@ -67,7 +64,7 @@ fn paths_are_there() {
     assert!(seen > 100, "only {seen} paths are named");
 }
 
-/// Whether a word has the form of a name of the crates: `read_line`, `base::at`, `whole-reached`, `Demands.Demand3`,
+/// Whether a word has the form of a name of the crates: `read_line`, `base::at`, `whole_reached`, `Demands.Demand3`,
 /// `treeOf`.
 fn is_name(word: &str) -> bool {
     let parts: Vec<&str> = word.split(['_', '-', ':', '.']).collect();
@@ -150,13 +147,12 @@ fn layer(name: &str) -> usize {
 #[test]
 fn crates_use_lower_layers() {
     let repository = Repository::here();
-    let mut before: Vec<&str> = TOOLCHAIN.to_vec();
+    let mut before: Vec<&str> = Vec::new();
     for each in &repository.crates {
         for used in &each.uses {
             let name = &each.name;
             assert!(before.contains(&&**used), "{name} stands before {used}");
-            let is_lower = TOOLCHAIN.contains(&&**used) || layer(used) <= layer(name);
-            assert!(is_lower, "{name} uses {used}");
+            assert!(layer(used) <= layer(name), "{name} uses {used}");
         }
         before.push(&each.name);
     }
@@ -233,12 +229,12 @@ fn wrong_places_are_noticed() {
     let new = text.replacen("Sizes.antt:", "Sizes.antt:1", 1);
     assert!(renewed(&repository, &new) == renewed(&repository, &text));
 
-    let new = text.replacen("| `maxParts` |", "| `mostParts` |", 1);
-    assert!(fault(&new).contains("mostParts is declared nowhere"));
+    let new = text.replacen("| `max_parts` |", "| `most_parts` |", 1);
+    assert!(fault(&new).contains("most_parts is declared nowhere"));
     let new = text.replacen("| `Outcome` |", "| `Outcomes` |", 1);
     assert!(fault(&new).contains("Outcomes is declared nowhere"));
-    let new = text.replacen("`seq-one`", "`seq-two`", 1);
-    assert!(fault(&new).contains("seq-two is declared nowhere"));
+    let new = text.replacen("`seq_one`", "`seq_two`", 1);
+    assert!(fault(&new).contains("seq_two is declared nowhere"));
     let new = text.replacen(
         "`ended_branch_taken_for_deciding`",
         "`ended_branch_taken`",
@@ -246,11 +242,11 @@ fn wrong_places_are_noticed() {
     );
     assert!(fault(&new).contains("ended_branch_taken is declared nowhere"));
     let new = text.replacen(
-        "`Refusals.offer-refused`, `goals",
-        "`offer-refused`, `goals",
+        "`Refusals.offer_refused`, `goals",
+        "`offer_refused`, `goals",
         1,
     );
-    assert!(fault(&new).contains("offer-refused is declared in crates/"));
+    assert!(fault(&new).contains("offer_refused is declared in crates/"));
 }
 
 /// A crate or an edit that is left out comes back, and one that is not there goes.

@@ -10,6 +10,15 @@ use super::declarations::{is_place, named, KINDS};
 /// Folders that the registers read.
 const SOURCES: [&str; 2] = ["crates", "rust/tests"];
 
+/// The note on the port to today's Rattle, which names what was there before.
+const PORT: &str = "docs/PORT.md";
+
+/// The folder of a crate in which rt keeps what it makes.
+const MADE: &str = "out";
+
+/// The files of a function's proof, which stand in a folder of its own below `proofs`.
+const PROOF: [&str; 3] = ["Invariants.antt", "Answers.antt", "Proof.antt"];
+
 /// A file, by its path from the top of the repository.
 pub struct Source {
     pub path: String,
@@ -25,6 +34,13 @@ impl Source {
     /// The folder of the crate in which the file stands: `src`, `specs`, `proofs` or `must-fail`.
     pub fn folder(&self) -> Option<&str> {
         self.path.strip_prefix("crates/")?.split('/').nth(1)
+    }
+
+    /// The name of the file, if it is one of a function's proof.
+    pub fn proof(&self) -> Option<&str> {
+        let inside = self.path.strip_prefix("crates/")?.split_once("/proofs/")?.1;
+        let (_, name) = inside.rsplit_once('/')?;
+        PROOF.contains(&name).then_some(name)
     }
 
     /// The file's name without its ending.
@@ -81,6 +97,7 @@ impl Repository {
     /// The paths of all documents that say how things are.
     pub fn documents(&self) -> Vec<String> {
         let mut found = self.texts("docs");
+        found.retain(|path| path != PORT);
         found.push("README.md".to_string());
         found
     }
@@ -142,10 +159,13 @@ fn entries(folder: &Path) -> Vec<String> {
     names
 }
 
-/// Takes up every file below a folder.
+/// Takes up every file below a folder, but for what rt has made.
 fn collect(top: &Path, folder: &str, found: &mut Vec<Source>) {
     for name in entries(&top.join(folder)) {
         let path = format!("{folder}/{name}");
+        if name == MADE {
+            continue;
+        }
         if top.join(&path).is_dir() {
             collect(top, &path, found);
         } else {
@@ -165,9 +185,13 @@ pub fn lines_of(list: &str) -> impl Iterator<Item = &str> {
 fn crates(list: &str) -> Vec<Crate> {
     lines_of(list)
         .filter_map(|line| line.split_once(':'))
-        .map(|(name, uses)| Crate {
-            name: name.to_string(),
-            uses: uses.split_whitespace().map(str::to_string).collect(),
+        .filter_map(|(head, uses)| {
+            // The static library has a word for its kind behind its name.
+            let name = head.split_whitespace().next()?;
+            Some(Crate {
+                name: name.to_string(),
+                uses: uses.split_whitespace().map(str::to_string).collect(),
+            })
         })
         .collect()
 }
