@@ -36,6 +36,7 @@ fn descriptor_of<F>(file: &Option<F>) -> i32
 }
 
 // What a read of `got` comes to, into the room after the first n bytes.
+#[tactic(auto, using(crate::proofs::Brought::piece_failed, crate::proofs::Brought::piece_held))]
 fn piece_of(got: isize, n: usize, room: &[u8]) -> Piece
     requires { n + length room.now < 2 ^ 64 }
     ensures { result ≡ piece_of got n (length room.now) }
