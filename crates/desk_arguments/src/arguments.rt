@@ -1,5 +1,5 @@
 // The arguments as the system gives them. No contract can say which they are.
-ghost use Rattle.std.specs.Prelude.{◌≤◌, length};
+ghost use Rattle.std.specs.Prelude.{◌≡◌, ◌≢◌, ◌≤◌, length, pos};
 
 use std::env::{Env, FillError};
 
@@ -18,7 +18,8 @@ pub struct Argument {
 
 // Reads argument i. Where it is missing or longer than the buffer, it has no bytes.
 pub fn read_argument<E: Env>(env: &E, i: usize, buf: &mut [u8]) -> Argument
-    ensures { result.length ≤ length buf.new }
+    ensures within { result.length ≤ length buf.new }
+    ensures whole_or_nothing { result.error ≢ pos 0 → result.length ≡ 0 }
 {
     match env.arg(i, buf) {
         Ok(n) => Argument {
