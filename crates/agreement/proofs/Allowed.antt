@@ -13,7 +13,8 @@ use lib.Seq.{take_at}
 use borrow.Author.Tests.{eq-eqb, ne_eqb, le-leb}
 use Rattle.base.specs.Lists.{all, any, sum, flag}
 use Rattle.base.proofs.Lists.{all_append}
-use Rattle.meaning.specs.Kinds.{Kind, MAINTAIN}
+use Rattle.meaning.specs.declared.kinds.Kind.{Kind}
+use Rattle.meaning.specs.declared.kinds.Kind.TheVariants.{Maintain as MAINTAIN}
 use Rattle.meaning.specs.Tree.{Part, Parts, goal, start, wait, seq, par, maintain, choice, repeat, one, more, list_of, kind, children, size}
 use Rattle.meaning.specs.Program.{Within}
 use Rattle.meaning.specs.Table.{inside_of, table_of}

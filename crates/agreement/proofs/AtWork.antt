@@ -10,7 +10,8 @@ use Rattle.base.specs.Lists.{all, flat}
 use Rattle.base.proofs.Lists.{and_left, and_right, all_append}
 use Rattle.meaning.specs.declared.Entry.{Entry}
 use Rattle.meaning.specs.Sizes.{max_value}
-use Rattle.meaning.specs.Kinds.{GOAL, value}
+use Rattle.meaning.specs.declared.kinds.Kind.TheVariants.{Goal as GOAL}
+use Rattle.meaning.specs.Kinds.{value}
 use Rattle.meaning.specs.Tree.{Part, Parts, goal, start, wait, seq, par, maintain, choice, repeat, one, more, children, list_of}
 use Rattle.meaning.specs.Program.{preorder, entry_allowed}
 use Rattle.meaning.specs.Cycle.{is_kind, values_for}

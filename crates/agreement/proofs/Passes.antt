@@ -10,7 +10,9 @@ use lib.ListN.{length, drop, length-replicate}
 use borrow.Author.Tests.{eq-eqb, ne_eqb}
 use Rattle.meaning.specs.declared.Entry.{Entry}
 use Rattle.meaning.specs.declared.Operand.{Operand}
-use Rattle.meaning.specs.Kinds.{Kind, SEQ, PAR, MAINTAIN, number_of}
+use Rattle.meaning.specs.declared.kinds.Kind.{Kind}
+use Rattle.meaning.specs.declared.kinds.Kind.TheVariants.{Seq as SEQ, Par as PAR, Maintain as MAINTAIN}
+use Rattle.meaning.specs.Kinds.{number_of}
 use Rattle.meaning.specs.Tree.{Part, Parts, goal, start, wait, seq, par, maintain, choice, repeat, one, more, list_of, operand, size}
 use Rattle.meaning.specs.Table.{kind_at, inside_of}
 use Rattle.meaning.specs.Conditions.{Situation, violated}

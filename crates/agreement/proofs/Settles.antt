@@ -16,7 +16,8 @@ use Rattle.base.specs.Lists.{any, nonempty}
 use Rattle.meaning.specs.declared.Entry.{Entry}
 use Rattle.meaning.specs.declared.Operand.{Operand}
 use Rattle.meaning.specs.Sizes.{max_parts, no_part}
-use Rattle.meaning.specs.Kinds.{Kind, SEQ, PAR}
+use Rattle.meaning.specs.declared.kinds.Kind.{Kind}
+use Rattle.meaning.specs.declared.kinds.Kind.TheVariants.{Seq as SEQ, Par as PAR}
 use Rattle.meaning.specs.Tree.{Part, Parts, goal, start, wait, seq, par, maintain, choice, repeat, one, more, list_of, kind, operand, size}
 use Rattle.meaning.specs.Table.{next_of, block, kind_at, operand_of}
 use Rattle.meaning.specs.Conditions.{Situation, reached, satisfied}

@@ -5,7 +5,7 @@ use mathlib.Core.Bool.{cond}
 use mathlib.Core.List.{List, [], ◌∷◌}
 use lib.ListN.{length, set}
 use Rattle.meaning.specs.declared.Entry.{Entry}
-use Rattle.meaning.specs.Kinds.{START}
+use Rattle.meaning.specs.declared.kinds.Kind.TheVariants.{Start as START}
 use Rattle.meaning.specs.Cycle.{is_kind, clocks_after}
 use Rattle.meaning.proofs.Clocks.{none_after, leaf_after, length_setting}
 use Rattle.agreement.specs.Runs.{start_each}

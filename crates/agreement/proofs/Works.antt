@@ -12,7 +12,9 @@ use Rattle.base.specs.Lists.{any}
 use Rattle.meaning.specs.declared.Entry.{Entry}
 use Rattle.meaning.specs.declared.Operand.{Operand}
 use Rattle.meaning.specs.Sizes.{no_part}
-use Rattle.meaning.specs.Kinds.{Kind, CHOICE, number_of}
+use Rattle.meaning.specs.declared.kinds.Kind.{Kind}
+use Rattle.meaning.specs.declared.kinds.Kind.TheVariants.{Choice as CHOICE}
+use Rattle.meaning.specs.Kinds.{number_of}
 use Rattle.meaning.specs.Tree.{Part, Parts, goal, start, wait, seq, par, maintain, choice, repeat, one, more, list_of, size}
 use Rattle.meaning.specs.Conditions.{Situation, reached, satisfied}
 use Rattle.meaning.specs.Record.{is_mark}

@@ -6,7 +6,8 @@ use mathlib.Core.List.{List, [], ◌∷◌}
 use Rattle.base.specs.Lists.{all, any, first_failing, bytes_at}
 use Rattle.meaning.specs.declared.Entry.{Entry}
 use Rattle.meaning.specs.Sizes.{time_limit}
-use Rattle.meaning.specs.Kinds.{START, value}
+use Rattle.meaning.specs.declared.kinds.Kind.TheVariants.{Start as START}
+use Rattle.meaning.specs.Kinds.{value}
 use Rattle.meaning.specs.Tree.{Part}
 use Rattle.meaning.specs.declared.Form.TheVariants.{File}
 use Rattle.meaning.specs.Program.{variables, clocks, tree_of}

@@ -3,7 +3,8 @@ use Rattle.std.specs.Prelude.{cond, ◌⊎◌, List, [], ◌∷◌, ◌++◌}
 use Rattle.std.proofs.Common.{inl, inr}
 use Rattle.std.proofs.Math.Option.{Option, none, some, map}
 use Rattle.meaning.specs.declared.Entry.{Entry}
-use Rattle.meaning.specs.Kinds.{GOAL, START, WAIT, number_of}
+use Rattle.meaning.specs.declared.kinds.Kind.TheVariants.{Goal as GOAL, Start as START, Wait as WAIT}
+use Rattle.meaning.specs.Kinds.{number_of}
 use Rattle.meaning.specs.Tree.{Part, Parts, goal, start, wait, seq, par, maintain, choice, repeat, one, more}
 use Rattle.meaning.specs.Conditions.{Situation, reached, satisfied, violated}
 

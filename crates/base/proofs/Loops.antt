@@ -1,16 +1,11 @@
 -- A loop that tests the numbers from i on, before e, in turn: one that leaves at the first that fails, and one that takes
--- all of them and keeps what it has found. And a loop that compares two lists from i on.
+-- all of them and keeps what it has found.
 use Prim.Native.Nat.{ℕ, suc, ◌+◌, ◌-◌, ◌<◌, ◌≤◌}
 use native.Mathlib.Numerals.{add-one}
 use native.Mathlib.Omega.{arith}
-use mathlib.Core.Path.{◌≡◌, refl, sym, ap}
+use mathlib.Core.Path.{◌≡◌, sym}
 use mathlib.Core.Bool.{Bool, true, false, ◌&&◌, and-true, and_assoc}
-use mathlib.Core.List.{List}
-use lib.ListN.{length, get_or, drop, drop_of_length-le}
-use lib.Seq.{drop-cons}
-use borrow.Author.Tests.{eq-eqb, ne_eqb}
-use Rattle.base.specs.Lists.{same, all_from}
-use Rattle.base.proofs.Lists.{same_eq}
+use Rattle.base.specs.Lists.{all_from}
 
 module _ (f : ℕ → Bool) (i e : ℕ) where
   -- a turn takes the first of those that are left; where none is left, nothing fails
@@ -41,27 +36,3 @@ module _ (f : ℕ → Bool) (i e : ℕ) where
 
   pub all_ends : (a whole : Bool) → e ≤ i → (a && all_from f i (e - i)) ≡ whole → a ≡ whole
   all_ends a whole h inv = rw (none_left h, and-true) at inv
-
--- two lists, number by number: from place i on they are the same exactly where the whole is
-module _ (s o : List ℕ) (i : ℕ) (whole : Bool) (long : length s ≡ length o) (inv : same (drop i s) (drop i o) ≡ whole) where
-  pub same_next : i < length s → get_or s i 0 ≡ get_or o i 0 → same (drop (i + 1) s) (drop (i + 1) o) ≡ whole
-  same_next h e =
-      let k : i < length o = omega arith in
-      rw (add-one i) (rw (drop-cons s i 0 h, drop-cons o i 0 k, eq-eqb (get_or s i 0) (get_or o i 0) e) at inv)
-
-  pub same_fails : i < length s → (get_or s i 0 ≡ get_or o i 0 → ⊥) → false ≡ whole
-  same_fails h e =
-      let k : i < length o = omega arith in
-      rw (drop-cons s i 0 h, drop-cons o i 0 k, ne_eqb (get_or s i 0) (get_or o i 0) e) at inv
-
-  pub same_ends : length s ≤ i → true ≡ whole
-  same_ends h =
-      let k : length o ≤ i = omega arith in
-      rw (drop_of_length-le s h, drop_of_length-le o k) at inv
-
-pub lengths_differ : (s o : List ℕ) → (length s ≡ length o → ⊥) → false ≡ same s o
-lengths_differ s o h = go (same s o) refl
-  where
-    go : (b : Bool) → same s o ≡ b → false ≡ b
-    go true e = absurd (h (ap length (same_eq s o e)))
-    go false e = refl

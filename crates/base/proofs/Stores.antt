@@ -4,12 +4,13 @@ use mathlib.Core.Path.{◌≡◌, refl, sym, ap, ◌∙◌}
 use mathlib.Core.Logic.{◌⊎◌, inl, inr}
 use mathlib.Core.Bool.{Bool, true}
 use mathlib.Core.List.{List, [], ◌∷◌, ◌++◌, map, append_assoc, append-nil}
-use native.Mathlib.Nat.{zero-add, add-zero, add-suc, suc-add, sub-zero}
+use native.Mathlib.Nat.{zero-add, add-zero, add-suc, suc-add}
 use native.Mathlib.Numerals.{add-one}
 use native.Mathlib.Omega.{arith}
 use native.Mathlib.Decide.{dec_lt}
-use lib.ListN.{length, get_or, take, drop, set, replicate, length-append, length-drop, length-set, get_or-map}
-use lib.Seq.{sets, length-sets, drop-cons, sets-eq, length-take-le, take_all, take_at, drop_at, set_out, get_or-set_same, get_or-set_other, drop-set-lt, set_comm, set-set, drop-drop, drop-append_seam, drop-append-add, get_or-drop}
+use lib.ListN.{length, get_or, take, drop, set, replicate, length-replicate, length-append, length-drop, length-set, get_or-map}
+use borrow.Rule.Slice.PartMut.{put_mid}
+use lib.Seq.{sets, length-sets, drop-length, drop-cons, sets-eq, length-take-le, take_all, take_at, drop_at, set_out, get_or-set_same, get_or-set_other, drop-set-lt, set_comm, set-set, drop-drop, drop-append_seam, drop-append-add, get_or-drop}
 use Rattle.base.specs.Lists.{sum, concat, all, bytes_at}
 
 -- a run of stores, and then one that begins where it ends
@@ -116,6 +117,24 @@ take_rest s k = take_all (length s - k) (drop k s) (rw length-drop (omega arith)
 pub sets_start : (l xs : List ℕ) → length xs ≤ length l → sets l 0 xs ≡ xs ++ drop (length xs) l
 sets_start l xs h = rw zero-add at (sets-eq xs l 0 (rw zero-add h))
 
+-- a part of a list overwritten with as many bytes as it had, n of them
+pub part_stored : (l xs : List ℕ) (i n : ℕ) → length xs ≡ n → i + n ≤ length l → put_mid i (i + n - i) l xs ≡ sets l i xs
+part_stored l xs i n e h =
+    let k : i + n - i ≡ length xs = omega arith in
+    rw (k, drop-drop) (sym (sets-eq xs l i (omega arith) ∙ append_assoc (take i l) xs (drop (i + length xs) l)))
+
+pub part_copied : (l m s : List ℕ) (i k n : ℕ) → k + n ≤ length s → i + n ≤ length l → m ≡ take (k + n - k) (drop k s) → put_mid i (i + n - i) l m ≡ sets l i (bytes_at s k n)
+part_copied l m s i k n r w e =
+    let c : k + n - k ≡ n = omega arith in
+    let b : m ≡ bytes_at s k n = e ∙ rw (c, take_bytes s k n r) in
+    rw b (part_stored l (bytes_at s k n) i n (length_bytes s k n) w)
+
+pub part_filled : (l m : List ℕ) (i n b : ℕ) → i + n ≤ length l → m ≡ replicate (length (take (i + n - i) (drop i l))) b → put_mid i (i + n - i) l m ≡ sets l i (replicate n b)
+part_filled l m i n b w e =
+    let c : length (take (i + n - i) (drop i l)) ≡ n = length-take-le (i + n - i) (drop i l) (rw length-drop (omega arith)) ∙ omega arith in
+    let r : m ≡ replicate n b = e ∙ rw c in
+    rw r (part_stored l (replicate n b) i n (length-replicate n b) w)
+
 -- what a run of stores leaves alone, and what stands where it was
 pub get_or-sets_out : (xs l : List ℕ) (i j : ℕ) → (j < i) ⊎ (i + length xs ≤ j) → get_or (sets l i xs) j 0 ≡ get_or l j 0
 get_or-sets_out [] l i j h = refl
@@ -220,9 +239,6 @@ pub record Copying (s : List ℕ) (k : ℕ) (l₀ : List ℕ) (i n : ℕ) (l : L
   pub left : sets l (i + j) (bytes_at s (k + j) (n - j)) ≡ sets l₀ i (bytes_at s k n)
 
 module _ (s : List ℕ) (k : ℕ) (l₀ : List ℕ) (i n : ℕ) where
-  pub copy_starts : Copying s k l₀ i n l₀ 0
-  copy_starts = record { as_long = refl; left = simp (add-zero, sub-zero) }
-
   module _ (l : List ℕ) (j : ℕ) (copying : Copying s k l₀ i n l j) where
     pub copy_step : (m : List ℕ) (b : ℕ) → j < n → b ≡ get_or s (k + j) 0 → m ≡ set l (i + j) b → length m ≡ length l → Copying s k l₀ i n m (j + 1)
     copy_step m b h b-is m-is kept =
@@ -231,14 +247,8 @@ module _ (s : List ℕ) (k : ℕ) (l₀ : List ℕ) (i n : ℕ) where
           left = stores_step (λ x. get_or s (k + x) 0 ∷ []) (λ x y. bytes_at s (k + x) y) (bytes_more s k) l m _ (i + j) (i + (j + 1)) j n h (rw (m-is, b-is)) (omega arith) copying.left;
         }
 
-    pub copy_end : n ≤ j → l ≡ sets l₀ i (bytes_at s k n)
-    copy_end h =
-        stores_end (λ x. get_or s (k + x) 0 ∷ []) (λ x y. bytes_at s (k + x) y) (bytes_more s k) l _ (i + j) j n refl h copying.left
-
--- One byte stored again and again
-pub fill_step : (l m w : List ℕ) (i j n b : ℕ) → j < n → m ≡ set l (i + j) b → sets l (i + j) (replicate (n - j) b) ≡ w → sets m (i + (j + 1)) (replicate (n - (j + 1)) b) ≡ w
-fill_step l m w i j n b h t inv =
-    stores_step (λ x. b ∷ []) (λ x y. replicate y b) (λ x y. refl) l m w (i + j) (i + (j + 1)) j n h t (omega arith) inv
-
-pub fill_end : (l w : List ℕ) (i j n b : ℕ) → n ≤ j → sets l (i + j) (replicate (n - j) b) ≡ w → l ≡ w
-fill_end l w i j n b h inv = stores_end (λ x. b ∷ []) (λ x y. replicate y b) (λ x y. refl) l w (i + j) j n refl h inv
+-- A list stored over one that is as long is all that is left
+pub copied_over : (s l₀ l : List ℕ) (j : ℕ) → Copying s 0 l₀ 0 (length s) l j → length s ≤ j → length s ≡ length l₀ → l ≡ s
+copied_over s l₀ l j copying h e =
+    stores_end (λ x. get_or s (0 + x) 0 ∷ []) (λ x y. bytes_at s (0 + x) y) (bytes_more s 0) l _ (0 + j) j (length s) refl h copying.left
+    ∙ rw (bytes_all s) (sets_start l₀ s (omega (arith, e)) ∙ rw (e, drop-length) (append-nil _))

@@ -5,13 +5,10 @@ use native.Mathlib.Omega.{arith}
 use mathlib.Core.Path.{◌≡◌, refl}
 use mathlib.Core.List.{List}
 use borrow.Author.Tests.{eq-eqb, ne_eqb, lt-ltb, le-ltb}
+use Rattle.std.specs.Prelude.{Option, None, Some, Result, Ok, Err, unwrap_or}
 use Rattle.meaning.specs.declared.Refusal.{Refusal}
-use Rattle.meaning.specs.declared.Answer.{Answer}
-use Rattle.meaning.specs.declared.Answer.TheVariants.{Done, Refused}
-use Rattle.meaning.specs.declared.OfferAnswer.{OfferAnswer}
-use Rattle.meaning.specs.declared.OfferAnswer.TheVariants.{Agreed, Contested, Refused as OfferRefused}
-use Rattle.meaning.specs.declared.SettleAnswer.{SettleAnswer}
-use Rattle.meaning.specs.declared.SettleAnswer.TheVariants.{Running, Finished, Refused as SettleRefused}
+use Rattle.meaning.specs.declared.Progress.{Progress}
+use Rattle.meaning.specs.declared.Progress.TheVariants.{Running, Finished}
 use Rattle.meaning.specs.Answers.{refusal_number, answer_number, offer_number, settle_number, answered, no_variable}
 use Rattle.meaning.proofs.Answers.{refusal_counts}
 use Rattle.desk_format.specs.Decimal.{decimal}
@@ -21,39 +18,42 @@ use Rattle.desk_format.proofs.Texts.{Three}
 use Rattle.desk_answers.specs.Answers.{refused_text, begun_text, settled_text, named_text, goals_text, offered_text, line_text}
 
 -- A beginning's line
-pub begun_done_text : {a : Answer} → a ≡ Done → begun_text (answer_number a) ≡ word "begun\n"
+pub begun_done_text : {a : Result (Unit {0}) Refusal} {u : Unit {0}} → a ≡ Ok u → begun_text (answer_number a) ≡ word "begun\n"
 unfolding begun_text
 begun_done_text told = rw told
 
-pub begun_refused_text : {a : Answer} {r : Refusal} → a ≡ Refused r → begun_text (answer_number a) ≡ refused_text (refusal_number r)
+pub begun_refused_text : {a : Result (Unit {0}) Refusal} {r : Refusal} → a ≡ Err r → begun_text (answer_number a) ≡ refused_text (refusal_number r)
 unfolding begun_text
 begun_refused_text {r = r} told = rw (told, ne_eqb (refusal_number r) 0 (λ z. omega (arith, refusal_counts r)))
 
 -- A settling's line
-pub settled_running_text : {a : SettleAnswer} → a ≡ Running → settled_text (settle_number a) ≡ word "running\n"
+pub by_progress : {a : Result Progress Refusal} {x y : Progress} → a ≡ Ok x → x ≡ y → a ≡ Ok y
+by_progress told x-is = rw (told, x-is)
+
+pub settled_running_text : {a : Result Progress Refusal} → a ≡ Ok Running → settled_text (settle_number a) ≡ word "running\n"
 unfolding settled_text
 settled_running_text told = rw told
 
-pub settled_finished_text : {a : SettleAnswer} → a ≡ Finished → settled_text (settle_number a) ≡ word "finished\n"
+pub settled_finished_text : {a : Result Progress Refusal} → a ≡ Ok Finished → settled_text (settle_number a) ≡ word "finished\n"
 unfolding settled_text
 settled_finished_text told = rw told
 
-pub settled_refused_text : {a : SettleAnswer} {r : Refusal} → a ≡ SettleRefused r → settled_text (settle_number a) ≡ refused_text (refusal_number r)
+pub settled_refused_text : {a : Result Progress Refusal} {r : Refusal} → a ≡ Err r → settled_text (settle_number a) ≡ refused_text (refusal_number r)
 unfolding settled_text
 settled_refused_text {r = r} told = rw (told, lt-ltb (refusal_number r) answered (refusal_counts r).1)
 
 -- An offer's line
-pub offered_refused : {a : OfferAnswer} {r : Refusal} (goals : List ℕ) → a ≡ OfferRefused r → offered_text (offer_number a) goals ≡ refused_text (refusal_number r)
+pub offered_refused : {a : Result (Option ℕ) Refusal} {r : Refusal} (goals : List ℕ) → a ≡ Err r → offered_text (offer_number a) goals ≡ refused_text (refusal_number r)
 unfolding offered_text
 offered_refused {r = r} goals told = rw (told, lt-ltb (refusal_number r) answered (refusal_counts r).1)
 
-pub offered_agreed : {a : OfferAnswer} (goals : List ℕ) → a ≡ Agreed → offered_text (offer_number a) goals ≡ goals_text goals no_variable
+offered_name : (named : Option ℕ) (goals : List ℕ) → offered_text (offer_number (Ok named)) goals ≡ goals_text goals (unwrap_or named no_variable)
 unfolding offered_text
-offered_agreed goals told = rw told
+offered_name None goals = refl
+offered_name (Some v) goals = rw (le-ltb (answered + v) answered (omega arith), add-sub_cancel_left)
 
-pub offered_contested : {a : OfferAnswer} {v : ℕ} (goals : List ℕ) → a ≡ Contested v → offered_text (offer_number a) goals ≡ goals_text goals v
-unfolding offered_text
-offered_contested {v = v} goals told = rw (told, le-ltb (answered + v) answered (omega arith), add-sub_cancel_left)
+pub offered_named : {a : Result (Option ℕ) Refusal} {named : Option ℕ} (goals : List ℕ) → a ≡ Ok named → offered_text (offer_number a) goals ≡ goals_text goals (unwrap_or named no_variable)
+offered_named {named = named} goals told = rw (told, offered_name named goals)
 
 pub named_none : {v : ℕ} → v ≡ no_variable → named_text v ≡ word " named none\n"
 unfolding named_text

@@ -1,2 +1,3 @@
+pub mod Arguments
 pub mod Messages
 pub mod Requests

@@ -1,17 +1,9 @@
 -- What the arguments of the commands ask for.
-use Rattle.std.specs.Prelude.{ℕ, Bool, false, cond, ◌&&◌, ◌||◌, List, eqb, ltb, ℤ, pos, negsuc, length}
+use Rattle.std.specs.Prelude.{ℕ, Bool, false, cond, ◌&&◌, ◌||◌, List, eqb, ltb, length}
 use Rattle.base.specs.Lists.{same}
 use Rattle.desk_format.specs.Words.{word}
 use Rattle.desk_arguments.specs.declared.Request.{Request}
 use Rattle.desk_arguments.specs.declared.Request.TheVariants.{Help, Usage, LongName, Input, File, FileWithParts}
-
--- C's number for an argument that is longer than its buffer
-abbrev pub too_long : ℕ
-too_long = 36
-
-abbrev pub is_cut : ℤ → Bool
-is_cut (pos k) = eqb k too_long
-is_cut (negsuc k) = false
 
 -- The number of arguments counts the command's own name, argument 0: with a file name, and with a word after it
 abbrev pub with_name : ℕ

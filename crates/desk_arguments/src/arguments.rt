@@ -1,49 +1,40 @@
 // The arguments as the system gives them. No contract can say which they are.
-ghost use Rattle.std.specs.Prelude.{◌≡◌, ◌≢◌, ◌≤◌, length, pos};
+ghost use Rattle.std.specs.Prelude.{◌≡◌, ◌≤◌, length, IfOk};
+ghost use Rattle.std.specs.Io.{WritesAtMost};
+ghost use Rattle.desk_arguments.specs.Arguments.{PartRead, is_cut};
 
 use std::env::{Env, FillError};
 
-// C's numbers for an argument that is missing and for one that is longer than its buffer.
-const EINVAL: i32 = 22;
+// The bytes of an argument, or why there are none: it is missing or longer than its buffer.
+pub type Argument<'a> = Result<&'a [u8], FillError>;
 
-pub(crate) const ENAMETOOLONG: i32 = 36;
-
-// What reading an argument comes to: how many of its bytes the buffer holds, and an error number, 0 where it holds the
-// whole argument.
-#[derive(Clone, Copy)]
-pub struct Argument {
-    pub length: usize,
-    pub error: i32,
+// What reading an argument of so many bytes into the buffer comes to.
+fn part_read(read: Result<usize, FillError>, buf: &[u8]) -> Argument<'_>
+    requires { WritesAtMost read buf.now }
+    ensures { PartRead read buf.now result }
+{
+    let n = read?;
+    Ok(&buf[..n])
 }
 
-// Reads argument i. Where it is missing or longer than the buffer, it has no bytes.
-pub fn read_argument<E: Env>(env: &E, i: usize, buf: &mut [u8]) -> Argument
-    ensures within { result.length ≤ length buf.new }
-    ensures whole_or_nothing { result.error ≢ pos 0 → result.length ≡ 0 }
+// Reads argument i.
+pub fn read_argument<'a, E: Env>(env: &E, i: usize, buf: &'a mut [u8]) -> Argument<'a>
+    ensures within { IfOk result (λ part. length part.now ≤ length buf.old) }
 {
-    match env.arg(i, buf) {
-        Ok(n) => Argument {
-            length: n,
-            error: 0,
-        },
-        Err(FillError::NotPresent) => Argument {
-            length: 0,
-            error: EINVAL,
-        },
-        Err(FillError::TooLong) => Argument {
-            length: 0,
-            error: ENAMETOOLONG,
-        },
-    }
+    let read = env.arg(i, buf);
+    part_read(read, buf)
+}
+
+// Whether an argument was longer than its buffer.
+pub fn is_cut(argument: Argument<'_>) -> bool
+    ensures { result ≡ is_cut argument.entry }
+{
+    matches!(argument, Err(FillError::TooLong))
 }
 
 // How many arguments there are, the command's own name among them. Only the last one is followed by none.
 pub fn argument_count<E: Env>(env: &E) -> usize {
-    let mut first = [0u8; 1];
-    for i in 0..usize::MAX {
-        if read_argument(env, i, &mut first).error == EINVAL {
-            return i;
-        }
-    }
-    usize::MAX
+    (0..usize::MAX)
+        .find(|i| matches!(env.arg(*i, &mut [0u8; 1]), Err(FillError::NotPresent)))
+        .unwrap_or(usize::MAX)
 }

@@ -7,7 +7,7 @@ pub mod messages;
 pub mod requests;
 
 // The commands that take arguments.
-#[derive(Clone, Copy)]
+#[derive(Clone, Copy, PartialEq, Eq)]
 pub enum Command {
     Assemble,
     Listing,
@@ -16,7 +16,7 @@ pub enum Command {
 
 // What the arguments ask for. `Usage` is for arguments that the command does not take, `LongName` for a file name
 // that is longer than any path, and `Input` for no file name at all.
-#[derive(Clone, Copy)]
+#[derive(Clone, Copy, PartialEq, Eq)]
 pub enum Request {
     Help,
     Usage,

@@ -1,10 +1,11 @@
 // What a command prints where its arguments name no file to work on.
-ghost use Rattle.std.specs.Prelude.{◌≡◌, ◌+◌, ◌<◌, ◌≤◌, ◌^◌, length};
+ghost use Rattle.std.specs.Prelude.{◌≡◌, ◌≤◌};
 ghost use Rattle.desk_format.specs.Writing.{Written};
+ghost use Rattle.desk_format.specs.Pages.{Adds};
 ghost use Rattle.desk_arguments.specs.Messages.{is_asked, usage_text, purpose_text, help_text, message_text, max_message};
 
 use crate::{Command, Request};
-use desk_format::words::write_word;
+use desk_format::page::Page;
 
 // Room for the longest message.
 pub const MAX_MESSAGE: usize = 512;
@@ -13,70 +14,62 @@ pub const MAX_MESSAGE: usize = 512;
 pub fn is_asked(request: Request) -> bool
     ensures { result ≡ is_asked request }
 {
-    match request {
-        Request::Help => true,
-        Request::Usage => false,
-        Request::LongName => false,
-        Request::Input => false,
-        Request::File => false,
-        Request::FileWithParts => false,
+    request == Request::Help
+}
+
+// A command's usage line.
+#[tactic(auto, unfolding(crate::specs::Messages::usage_text))]
+fn usage(command: Command) -> &'static [u8]
+    ensures { result.now ≡ usage_text command }
+{
+    match command {
+        Command::Assemble => b"usage: assemble [TEXT]\n",
+        Command::Listing => b"usage: listing [PROGRAM]\n",
+        Command::Rehearse => b"usage: rehearse PROGRAM [parts]\n",
     }
 }
 
-// Writes the usage line.
-fn write_usage(command: Command, out: &mut [u8]) -> usize
-    ensures { Written (usage_text command) out.old 0 out.new result }
+// What a command does.
+#[tactic(auto, unfolding(crate::specs::Messages::purpose_text))]
+fn purpose(command: Command) -> &'static [u8]
+    ensures { result.now ≡ purpose_text command }
 {
     match command {
-        Command::Assemble => write_word(b"usage: assemble [TEXT]\n", out, 0),
-        Command::Listing => write_word(b"usage: listing [PROGRAM]\n", out, 0),
-        Command::Rehearse => write_word(b"usage: rehearse PROGRAM [parts]\n", out, 0),
-    }
-}
-
-// Writes what a command does, from place i on.
-fn write_purpose(command: Command, out: &mut [u8], i: usize) -> usize
-    requires { i + length (purpose_text command) < 2 ^ 64 }
-    ensures { Written (purpose_text command) out.old i out.new result }
-{
-    match command {
-        Command::Assemble => write_word(
+        Command::Assemble =>
             b"Writes the program file of the program that is typed as text in the file TEXT to standard output.\nWithout TEXT it reads the text from standard input.\nA text that is refused gives no output; why it is refused is printed on standard error.\n",
-            out,
-            i,
-        ),
-        Command::Listing => write_word(
+        Command::Listing =>
             b"Prints the location table of the program in the file PROGRAM, or the number of its refusal.\nWithout PROGRAM it reads the file from standard input.\n",
-            out,
-            i,
-        ),
-        Command::Rehearse => write_word(
+        Command::Rehearse =>
             b"Makes the calls on standard input, one a line, on the program in the file PROGRAM, and prints each answer.\nPROGRAM is a program file, or a program that is typed as text.\nCalls: begin HEX, offer TIME, offer TIME LENGTH, settle HEX.\nWith the word parts it prints the marked parts under each answer.\n",
-            out,
-            i,
-        ),
     }
 }
 
 // Writes the usage line, and under it what the command does.
-fn write_help(command: Command, out: &mut [u8]) -> usize
-    ensures { Written (help_text command) out.old 0 out.new result }
+fn write_help(command: Command, page: &mut Page<'_>)
+    ensures { Adds (help_text command) page.old page.new }
 {
-    let n = write_usage(command, out);
-    write_purpose(command, out, n)
+    page.word(usage(command));
+    page.word(purpose(command));
 }
 
-// Writes the message of a request: none where a file is asked for.
+// Writes the message of a request on a page: none where a file is asked for.
+fn add_message(command: Command, request: Request, page: &mut Page<'_>)
+    ensures { Adds (message_text command request) page.old page.new }
+{
+    match request {
+        Request::Help => write_help(command, page),
+        Request::Usage => page.word(usage(command)),
+        Request::LongName => page.word(b"the file name has more than 4095 bytes\n"),
+        Request::Input | Request::File | Request::FileWithParts => {}
+    }
+}
+
+// Writes the message of a request, and gives its length.
 pub fn write_message(command: Command, request: Request, out: &mut [u8]) -> usize
     ensures written { Written (message_text command request) out.old 0 out.new result }
     ensures upper_bound { result ≤ max_message }
 {
-    match request {
-        Request::Help => write_help(command, out),
-        Request::Usage => write_usage(command, out),
-        Request::LongName => write_word(b"the file name has more than 4095 bytes\n", out, 0),
-        Request::Input => 0,
-        Request::File => 0,
-        Request::FileWithParts => 0,
-    }
+    let mut page = Page::new(out);
+    add_message(command, request, &mut page);
+    page.length
 }

@@ -13,12 +13,11 @@ use Rattle.base.proofs.Lists.{none_fails}
 use Rattle.base.proofs.Stores.{sets_start, get_or-sets_in}
 use Rattle.meaning.specs.declared.Form.TheVariants.{File}
 use Rattle.meaning.specs.declared.Refusal.{Refusal}
-use Rattle.meaning.specs.declared.Answer.{Answer}
-use Rattle.meaning.specs.declared.Answer.TheVariants.{Done, Refused}
+use Rattle.std.specs.Prelude.{Result, Ok, Err}
 use Rattle.meaning.specs.Sizes.{length_of}
 use Rattle.meaning.specs.Program.{parts, program_tests, program_refusal}
 use Rattle.meaning.specs.Answers.{refusal_number, answer_number}
-use Rattle.meaning.proofs.Answers.{not_refused, is_refused}
+use Rattle.meaning.proofs.Answers.{refusal_positive, not_refused, is_refused}
 use Rattle.text_grammar.specs.Syntax.{Text}
 use Rattle.text_grammar.specs.Trees.{text_file}
 use Rattle.text_grammar.specs.Texts.{Fits}
@@ -31,8 +30,8 @@ use Rattle.text_stops.proofs.Stops.{stop_inside}
 use Rattle.desk_format.specs.Writing.{Written}
 use Rattle.desk_texts.specs.Words.{refusal_text, max_words}
 use Rattle.desk_texts.proofs.Saying.{words_fit}
-use Rattle.desk_assembly.specs.declared.Assembly.{Assembly}
-use Rattle.desk_assembly.specs.Assembly.{words_of, Assembling}
+use Rattle.desk_assembly.specs.declared.Refused.{Refused}
+use Rattle.desk_assembly.specs.Assembly.{words_of, number_in, length_in, Assembling}
 
 -- A text that is accepted: its file, and how long that is by the sizes that it begins with
 module _ (t file : List ℕ) (z : assemble_refusal t (length file) ≡ 0) where
@@ -71,20 +70,20 @@ pub place_inside : (t : List ℕ) (place : ℕ) → place ≡ stop_place t → p
 place_inside t place h = rw h (stop_inside t)
 
 -- By each answer
-module _ (t file file' words : List ℕ) (a : Answer) (h : Assembled t file (answer_number a) file') where
-  pub assembled_done : (n p : ℕ) → a ≡ Done → p ≡ parts file' → n ≡ length_of File p → Assembling t file file' words words (record { answer = a; length = n })
+module _ (t file file' words : List ℕ) (a : Result (Unit {0}) Refusal) (h : Assembled t file (answer_number a) file') where
+  pub assembled_done : (n p : ℕ) → a ≡ Ok tt → p ≡ parts file' → n ≡ length_of File p → Assembling t file file' words words (Ok n)
   unfolding words_of
   assembled_done n p told p-is n-is =
       let z : assemble_refusal t (length file) ≡ 0 = not_refused a (assemble_refusal t (length file)) h.answer_is told in
       record {
-        answer_is = h.answer_is;
+        answer_is = sym z;
         file_is = h.buffer_is;
         words_are = rw z;
         length_is = rw z (n-is ∙ ap (length_of File) (p-is ∙ ap parts h.buffer_is) ∙ length_told t file z);
       }
 
-  pub assembled_refused : (why : Refusal) (words' : List ℕ) (n place : ℕ) → a ≡ Refused why → place ≡ stop_place t → Written (refusal_text (refusal_number why) t place) words 0 words' n
-      → Assembling t file file' words words' (record { answer = Refused why; length = n })
+  pub assembled_refused : (why : Refusal) (words' : List ℕ) (n place : ℕ) → a ≡ Err why → place ≡ stop_place t → Written (refusal_text (refusal_number why) t place) words 0 words' n
+      → Assembling t file file' words words' (Err (record { why = why; length = n }))
   unfolding words_of
   assembled_refused why words' n place told place_is w =
       let number : refusal_number why ≡ assemble_refusal t (length file) = ap answer_number (sym told) ∙ h.answer_is in
@@ -97,31 +96,32 @@ module _ (t file file' words : List ℕ) (a : Answer) (h : Assembled t file (ans
       }
 
 -- An accepted text's file stands at the buffer's begin, and is the file that the text means
-module _ (t file file' words words' : List ℕ) (a : Assembly) (h : Assembling t file file' words words' a) where
-  module _ (told : a.answer ≡ Done) where
+module _ (t file file' words words' : List ℕ) (a : Result ℕ Refused) (h : Assembling t file file' words words' a) where
+  module _ (n : ℕ) (told : a ≡ Ok n) where
     pub zero_is : assemble_refusal t (length file) ≡ 0
-    zero_is = not_refused a.answer (assemble_refusal t (length file)) h.answer_is told
+    zero_is = sym h.answer_is ∙ ap number_in told
 
-    size_is : a.length ≡ length (text_file (text t file zero_is))
-    size_is = h.length_is ∙ rw (zero_is, file_of_lem t file zero_is)
+    size_is : n ≡ length (text_file (text t file zero_is))
+    size_is = ap length_in (sym told) ∙ h.length_is ∙ rw (zero_is, file_of_lem t file zero_is)
 
-    pub file_fits : a.length ≤ length file
+    pub file_fits : n ≤ length file
     file_fits = omega (arith, size_is, room t file zero_is)
 
-    pub file_inside : a.length ≤ length file'
+    pub file_inside : n ≤ length file'
     file_inside = rw (h.file_is, written_file t file zero_is, length-sets file 0 (text_file (text t file zero_is))) file_fits
 
-    pub file_comes_out : Fits t (text t file zero_is) × (take a.length file' ≡ text_file (text t file zero_is))
+    pub file_comes_out : Fits t (text t file zero_is) × (take n file' ≡ text_file (text t file zero_is))
     file_comes_out =
         let f = text_file (text t file zero_is) in
         let front : file' ≡ f ++ drop (length f) file = h.file_is ∙ written_file t file zero_is ∙ sets_start file f (room t file zero_is) in
-        (fits t file zero_is, ap (take a.length) front ∙ take_at f (drop (length f) file) a.length (sym size_is))
+        (fits t file zero_is, ap (take n) front ∙ take_at f (drop (length f) file) n (sym size_is))
 
   -- and the words fit theirs
-  pub words_inside : (why : Refusal) → a.answer ≡ Refused why → a.length ≤ max_words
+  pub words_inside : (e : Refused) → a ≡ Err e → e.length ≤ max_words
   unfolding words_of
-  words_inside why told =
+  words_inside e told =
       let n = assemble_refusal t (length file) in
-      let no : eqb n 0 ≡ false = ne_eqb n 0 (is_refused a.answer why n h.answer_is told) in
-      let size : a.length ≡ length (refusal_text n t (stop_place t)) = h.length_is ∙ rw no in
+      let number : refusal_number e.why ≡ n = ap number_in (sym told) ∙ h.answer_is in
+      let no : eqb n 0 ≡ false = ne_eqb n 0 (λ z. refusal_positive e.why (number ∙ z)) in
+      let size : e.length ≡ length (refusal_text n t (stop_place t)) = ap length_in (sym told) ∙ h.length_is ∙ rw no in
       omega (arith, size, words_fit n t (stop_place t))

@@ -5,7 +5,7 @@ use mathlib.Core.List.{List, [], ◌∷◌, ◌++◌, map}
 use Rattle.desk_parse.specs.Words.{leading, trimmed, word_of, rest_of, digit_of, pair_bytes, pairs_only, pairs_of, next_value, decimal_from, numeral_of}
 use Rattle.desk_calls.specs.declared.Line.{Line}
 use Rattle.desk_calls.specs.declared.Line.TheVariants.{Passed, Begin, Offer, OfferInto, Settle, NotACall}
-use Rattle.desk_calls.specs.Lines.{begin_word, offer_word, settle_word, offer_with, line_by_word, line_of, bytes_after, bytes_of}
+use Rattle.desk_calls.specs.Lines.{begin_word, offer_word, settle_word, offer_with, call_by_word, line_by_word, line_of, bytes_after, bytes_of}
 
 -- a line, what it says, and the bytes that it carries
 pub record Example : Type 0 where
@@ -44,5 +44,5 @@ table =
     ∷ []
 
 examples : map {B = Line × List ℕ} (λ e. (line_of e.line, bytes_of e.line)) table ≡ map (λ e. (e.says, e.carries)) table
-unfolding table leading trimmed word_of rest_of digit_of pair_bytes pairs_only pairs_of next_value decimal_from numeral_of offer_with line_by_word line_of bytes_after bytes_of
+unfolding table leading trimmed word_of rest_of digit_of pair_bytes pairs_only pairs_of next_value decimal_from numeral_of offer_with call_by_word line_by_word line_of bytes_after bytes_of
 examples = refl

@@ -6,15 +6,14 @@ use mathlib.Core.Bool.{Bool, true, false, cond, ◌||◌}
 use mathlib.Core.List.{List, [], ◌∷◌}
 use lib.ListN.{length, take, drop, length-drop}
 use lib.Seq.{sets, take_at}
+use Rattle.std.proofs.Common.{Option, Some, None}
+use Rattle.std.specs.Option.{option_map, unwrap_or}
 use Rattle.base.specs.Lists.{nonempty, same}
 use Rattle.base.proofs.Stores.{sets_start}
-use Rattle.desk_parse.specs.declared.Numeral.{Numeral}
-use Rattle.desk_parse.specs.declared.Numeral.TheVariants.{Value, NoNumber}
-use Rattle.desk_parse.specs.declared.Pairs.TheVariants.{Whole, Broken}
 use Rattle.desk_parse.specs.Words.{is_space, is_other, is_pair, pair_byte, leading, trimmed, word_of, rest_of, pair_bytes, pairs_only, pairs_of, numeral_of}
 use Rattle.desk_calls.specs.declared.Line.{Line}
 use Rattle.desk_calls.specs.declared.Line.TheVariants.{Passed, Begin, Offer, OfferInto, Settle, NotACall}
-use Rattle.desk_calls.specs.Lines.{begin_word, offer_word, settle_word, passed_over, begin_with, settle_with, offer_into, offer_at, offer_with, line_by_word, line_of, bytes_after, bytes_of}
+use Rattle.desk_calls.specs.Lines.{begin_word, offer_word, settle_word, passed_over, offer_into, offer_at, offer_with, call_by_word, line_by_word, line_of, bytes_after, bytes_of}
 
 pairs_half : (l : List ℕ) → 2 * length (pair_bytes l) ≤ length l
 unfolding pair_bytes
@@ -54,22 +53,22 @@ number_in (OfferInto time n) d = d
 number_in (Settle n) d = n
 number_in NotACall d = d
 
-offer_number : (m : Numeral) (l : List ℕ) (d : ℕ) → number_in (offer_at m l) d ≡ d
-offer_number NoNumber l d = refl
-offer_number (Value time) l d = go (nonempty l) (numeral_of (word_of l)) (trimmed (rest_of l))
+offer_number : (m : Option ℕ) (l : List ℕ) (d : ℕ) → number_in (unwrap_or (offer_at m l) NotACall) d ≡ d
+offer_number None l d = refl
+offer_number (Some time) l d = go (nonempty l) (numeral_of (word_of l)) (trimmed (rest_of l))
   where
-    go : (a : Bool) (k : Numeral) (r : List ℕ) → number_in (cond a (offer_into time k r) (Offer time)) d ≡ d
-    go true (Value n) [] = refl
-    go true (Value n) (x ∷ r) = refl
-    go true NoNumber r = refl
+    go : (a : Bool) (k : Option ℕ) (r : List ℕ) → number_in (unwrap_or (cond a (offer_into time k r) (Some (Offer time))) NotACall) d ≡ d
+    go true (Some n) [] = refl
+    go true (Some n) (x ∷ r) = refl
+    go true None r = refl
     go false k r = refl
 
 call_number : (w rest : List ℕ) → number_in (line_by_word w rest) (length (bytes_after w rest)) ≡ length (bytes_after w rest)
-unfolding line_by_word bytes_after pairs_of offer_with
+unfolding line_by_word call_by_word bytes_after pairs_of offer_with
 call_number w rest = go (passed_over w) (same w begin_word) (same w offer_word) (same w settle_word) (pairs_only rest)
   where
     go : (a b c d e : Bool)
-        → number_in (cond a Passed (cond b (begin_with (cond e (Whole (length (pair_bytes rest))) Broken)) (cond c (offer_with rest) (cond d (settle_with (cond e (Whole (length (pair_bytes rest))) Broken)) NotACall)))) (length (cond (b || d) (pair_bytes rest) [])) ≡ length (cond (b || d) (pair_bytes rest) [])
+        → number_in (cond a Passed (unwrap_or (cond b (option_map Begin (cond e (Some (length (pair_bytes rest))) None)) (cond c (offer_with rest) (cond d (option_map Settle (cond e (Some (length (pair_bytes rest))) None)) None))) NotACall)) (length (cond (b || d) (pair_bytes rest) [])) ≡ length (cond (b || d) (pair_bytes rest) [])
     go true b c d e = refl
     go false true c d true = refl
     go false true c d false = refl

@@ -1,10 +1,7 @@
 -- What a line of a list of calls says.
-use Rattle.std.specs.Prelude.{ℕ, Bool, true, cond, ◌||◌, List, [], ◌∷◌, eqb}
+use Rattle.std.specs.Prelude.{ℕ, Bool, true, cond, ◌||◌, List, [], ◌∷◌, eqb, Option, Some, None}
+use Rattle.std.specs.Option.{option_map, unwrap_or}
 use Rattle.base.specs.Lists.{nonempty, same}
-use Rattle.desk_parse.specs.declared.Numeral.{Numeral}
-use Rattle.desk_parse.specs.declared.Numeral.TheVariants.{Value, NoNumber}
-use Rattle.desk_parse.specs.declared.Pairs.{Pairs}
-use Rattle.desk_parse.specs.declared.Pairs.TheVariants.{Whole, Broken}
 use Rattle.desk_parse.specs.Words.{trimmed, word_of, rest_of, pair_bytes, pairs_of, numeral_of}
 use Rattle.desk_calls.specs.declared.Line.{Line}
 use Rattle.desk_calls.specs.declared.Line.TheVariants.{Passed, Begin, Offer, OfferInto, Settle, NotACall}
@@ -24,34 +21,28 @@ abbrev pub passed_over : List ℕ → Bool
 passed_over [] = true
 passed_over (x ∷ w) = eqb x 35
 
--- `begin HEX` and `settle HEX`, by the pairs after the word
-abbrev pub begin_with : Pairs → Line
-begin_with (Whole n) = Begin n
-begin_with Broken = NotACall
-
-abbrev pub settle_with : Pairs → Line
-settle_with (Whole n) = Settle n
-settle_with Broken = NotACall
-
 -- `offer TIME` or `offer TIME LENGTH`: by the length and what stands after it, and by the time and what stands after it
-abbrev pub offer_into : ℕ → Numeral → List ℕ → Line
-offer_into time (Value n) l = cond (nonempty l) NotACall (OfferInto time n)
-offer_into time NoNumber l = NotACall
+abbrev pub offer_into : ℕ → Option ℕ → List ℕ → Option Line
+offer_into time (Some n) l = cond (nonempty l) None (Some (OfferInto time n))
+offer_into time None l = None
 
-abbrev pub offer_at : Numeral → List ℕ → Line
-offer_at (Value time) l = cond (nonempty l) (offer_into time (numeral_of (word_of l)) (trimmed (rest_of l))) (Offer time)
-offer_at NoNumber l = NotACall
+abbrev pub offer_at : Option ℕ → List ℕ → Option Line
+offer_at (Some time) l = cond (nonempty l) (offer_into time (numeral_of (word_of l)) (trimmed (rest_of l))) (Some (Offer time))
+offer_at None l = None
 
-unfoldable pub offer_with : List ℕ → Line
+unfoldable pub offer_with : List ℕ → Option Line
 offer_with l = offer_at (numeral_of (word_of (trimmed l))) (trimmed (rest_of (trimmed l)))
+
+-- a call, `begin HEX` and `settle HEX` by the pairs after the word: by a line's first word and what stands after it
+unfoldable pub call_by_word : List ℕ → List ℕ → Option Line
+call_by_word w rest =
+    cond (same w begin_word) (option_map Begin (pairs_of rest))
+    (cond (same w offer_word) (offer_with rest)
+    (cond (same w settle_word) (option_map Settle (pairs_of rest)) None))
 
 -- a line by its first word and what stands after it
 unfoldable pub line_by_word : List ℕ → List ℕ → Line
-line_by_word w rest =
-    cond (passed_over w) Passed
-    (cond (same w begin_word) (begin_with (pairs_of rest))
-    (cond (same w offer_word) (offer_with rest)
-    (cond (same w settle_word) (settle_with (pairs_of rest)) NotACall)))
+line_by_word w rest = cond (passed_over w) Passed (unwrap_or (call_by_word w rest) NotACall)
 
 unfoldable pub line_of : List ℕ → Line
 line_of l = line_by_word (word_of (trimmed l)) (rest_of (trimmed l))

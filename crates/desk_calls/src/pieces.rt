@@ -15,7 +15,8 @@ pub fn line_end(buf: &[u8], from: usize, to: usize) -> usize
     place_of(buf, b'\n', from, to)
 }
 
-// Moves the bytes from place `from` on and before place `to` to the buffer's beginning.
+// Moves the bytes from place `from` on and before place `to` to the buffer's beginning. One by one, since
+// `copy_within` asks that all these places are inside.
 pub fn shift(buf: &mut [u8], from: usize, to: usize)
     ensures { buf.new ≡ sets buf.old 0 (bytes_at buf.old from (to - from)) }
 {

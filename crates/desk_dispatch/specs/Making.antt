@@ -1,13 +1,11 @@
 -- What follows from a line that was read: its text, the record, the count of cycles, and whether the run ends.
-use Rattle.std.specs.Prelude.{ℕ, min, ◌≡◌, Bool, true, false, List, [], length, replicate}
+use Rattle.std.specs.Prelude.{ℕ, min, Bool, true, false, List, [], length, replicate}
 use Rattle.base.specs.Lists.{bytes_at}
 use Rattle.meaning.specs.Program.{variables}
 use Rattle.meaning.specs.Cycle.{begin_refusal, begun_into, offer_answer, offered_into, goals_into, settle_answer, settled_into}
-use Rattle.desk_format.specs.Writing.{Written}
 use Rattle.desk_calls.specs.declared.Line.{Line}
 use Rattle.desk_calls.specs.declared.Line.TheVariants.{Passed, Begin, Offer, OfferInto, Settle, NotACall}
 use Rattle.desk_answers.specs.Answers.{begun_text, offered_text, settled_text, line_text}
-use Rattle.desk_dispatch.specs.declared.Turn.{Turn}
 use Rattle.desk_dispatch.specs.Counting.{begun_cycles, settled_cycles}
 
 -- A goal buffer is at most so long: more than an offer ever writes
@@ -59,9 +57,3 @@ ends_run (Offer time) = false
 ends_run (OfferInto time room) = false
 ends_run (Settle k) = false
 ends_run NotACall = true
-
--- A turn: the text that it writes into a buffer, from its beginning on, the count of cycles after it, and whether it ends the run
-pub record Turned (text : List ℕ) (cycles : ℕ) (ends : Bool) (out out' : List ℕ) (turn : Turn) : Type 0 where
-  pub written : Written text out 0 out' turn.length
-  pub cycles_are : turn.cycles ≡ cycles
-  pub ends_is : turn.ends ≡ ends

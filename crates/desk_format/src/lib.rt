@@ -1,6 +1,4 @@
-// Text written into a buffer: numbers in decimal, bytes in hexadecimal, fixed words.
+// Text written into a buffer: words, numbers in decimal, bytes in hexadecimal.
 #![tactic(auto)]
 
-pub mod decimal;
-pub mod hexadecimal;
-pub mod words;
+pub mod page;

@@ -1,6 +1,5 @@
 -- The listing: what `list` writes where the file is compiled and where it is refused, and how long it can be.
 use Prim.Native.Nat.{ℕ, zero, suc, ◌+◌, ◌≤◌}
-use native.Mathlib.Nat.{zero-add}
 use native.Mathlib.Omega.{arith}
 use mathlib.Core.Path.{◌≡◌, refl, sym, ap, ap₂, ◌∙◌}
 use mathlib.Core.Bool.{Bool, true, false, cond}
@@ -11,8 +10,7 @@ use lib.Seq.{sets, sets-eq, get_or-drop}
 use borrow.Author.Tests.{le-leb, eq-eqb, ne_eqb, eqb-true}
 use Rattle.meaning.specs.declared.Form.TheVariants.{File, Table}
 use Rattle.meaning.specs.declared.Refusal.{Refusal}
-use Rattle.meaning.specs.declared.Answer.{Answer}
-use Rattle.meaning.specs.declared.Answer.TheVariants.{Done, Refused}
+use Rattle.std.specs.Prelude.{Result, Ok, Err}
 use Rattle.meaning.specs.Answers.{refusal_number, answer_number}
 use Rattle.meaning.specs.Sizes.{max_parts, length_of}
 use Rattle.meaning.specs.Tree.{Part}
@@ -111,11 +109,11 @@ listing_fits f = go (eqb (program_refusal File f) 0) refl
     go false e = omega (arith, line_fits (program_refusal File f ∷ []))
 
 -- The table that is read reads like the file's, and stands in the buffer with all its rows
-module _ (f : List ℕ) (n : ℕ) (room : length_of Table max_parts ≤ n) (a : Answer) (a-is : answer_number a ≡ compile_refusal f (length (zeros n))) where
+module _ (f : List ℕ) (n : ℕ) (room : length_of Table max_parts ≤ n) (a : Result (Unit {0}) Refusal) (a-is : answer_number a ≡ compile_refusal f (length (zeros n))) where
   refusal_is : answer_number a ≡ program_refusal File f
   refusal_is = a-is ∙ room_enough f (length (zeros n)) (rw length-replicate room)
 
-  module _ (t : List ℕ) (t-is : t ≡ compiled_into f (zeros n)) (d : a ≡ Done) where
+  module _ (t : List ℕ) (t-is : t ≡ compiled_into f (zeros n)) (d : a ≡ Ok tt) where
     accepts : program_refusal File f ≡ 0
     accepts = sym refusal_is ∙ ap answer_number d
 
@@ -128,22 +126,12 @@ module _ (f : List ℕ) (n : ℕ) (room : length_of Table max_parts ≤ n) (a : 
     pub list_long : length_of Table (parts t) ≤ n
     list_long = omega (arith, alike 0, parts_few f accepts)
 
--- What `list` ensures, at each of its answers
-module _ (f out m : List ℕ) (r : ℕ) where
-  abbrev Listed : Type 0
-  Listed = (r ≡ length (listing f)) × ((m ≡ sets out 0 (listing f)) × (r ≤ max_listing))
+-- What is written at each answer is the listing
+module _ (f : List ℕ) (n : ℕ) (room : length_of Table max_parts ≤ n) (a : Result (Unit {0}) Refusal) (a-is : answer_number a ≡ compile_refusal f (length (zeros n))) where
+  pub listing_done : (t : List ℕ) → t ≡ compiled_into f (zeros n) → a ≡ Ok tt → listing f ≡ table_text t
+  listing_done t t-is d = listing_table f (accepts f n room a a-is t t-is d) ∙ sym (text_alike t (compiled File f) (alike f n room a a-is t t-is d))
 
-  listed : (text : List ℕ) → text ≡ listing f → Written text out 0 m r → Listed
-  listed text e w =
-      let n : r ≡ length (listing f) = w.after ∙ rw (zero-add, e) in
-      (n, (rw e at w.bytes, omega (arith, listing_fits f)))
-
-  module _ (n : ℕ) (room : length_of Table max_parts ≤ n) (a : Answer) (a-is : answer_number a ≡ compile_refusal f (length (zeros n))) where
-    pub list_done : (t : List ℕ) → t ≡ compiled_into f (zeros n) → a ≡ Done → Written (table_text t) out 0 m r → Listed
-    list_done t t-is d w =
-        listed (table_text t) (text_alike t (compiled File f) (alike f n room a a-is t t-is d) ∙ sym (listing_table f (accepts f n room a a-is t t-is d))) w
-
-    pub list_refused : (x : Refusal) → a ≡ Refused x → Written (line (refusal_number x ∷ [])) out 0 m r → Listed
-    list_refused x d w =
-        let z : refusal_number x ≡ program_refusal File f = ap answer_number (sym d) ∙ refusal_is f n room a a-is in
-        listed (line (refusal_number x ∷ [])) (rw z (sym (listing_refused f (λ e. omega (arith, refusal_counts x))))) w
+  pub listing_told : (x : Refusal) → a ≡ Err x → listing f ≡ line (refusal_number x ∷ [])
+  listing_told x d =
+      let z : refusal_number x ≡ program_refusal File f = ap answer_number (sym d) ∙ refusal_is f n room a a-is in
+      rw z (listing_refused f (λ e. omega (arith, refusal_counts x)))

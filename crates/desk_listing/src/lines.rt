@@ -1,11 +1,10 @@
 // Lines of numbers.
-ghost use Rattle.std.specs.Prelude.{◌≡◌, [], ◌∷◌, ◌++◌, ◌+◌, ◌<◌, ◌^◌, length};
+ghost use Rattle.std.specs.Prelude.{◌≡◌, [], ◌∷◌, ◌++◌};
 ghost use Rattle.desk_format.specs.Decimal.{decimal};
-ghost use Rattle.desk_format.specs.Writing.{Written};
+ghost use Rattle.desk_format.specs.Pages.{Adds};
 ghost use Rattle.desk_listing.specs.Listing.{separator, line};
 
-use base::put;
-use desk_format::decimal::write_number;
+use desk_format::page::Page;
 
 // What stands after a number: a space where another follows, else a line feed.
 fn separator(follows: bool) -> u8
@@ -15,23 +14,18 @@ fn separator(follows: bool) -> u8
 }
 
 // Writes a number of a line and the separator after it.
-fn write_item(n: u64, follows: bool, out: &mut [u8], i: usize) -> usize
-    requires { i + length (decimal n) + 1 < 2 ^ 64 }
-    ensures { Written (decimal n ++ (separator follows ∷ [])) out.old i out.new result }
+fn write_item(n: u64, follows: bool, page: &mut Page<'_>)
+    ensures { Adds (decimal n ++ (separator follows ∷ [])) page.old page.new }
 {
-    let j = write_number(n, out, i);
-    put(out, j, separator(follows));
-    j + 1
+    page.number(n);
+    page.byte(separator(follows));
 }
 
-// Writes a line from place i on, and gives the place after it.
-pub(crate) fn write_line(numbers: &[u64], out: &mut [u8], i: usize) -> usize
-    requires { i + length (line numbers.now) < 2 ^ 64 }
-    ensures { Written (line numbers.now) out.old i out.new result }
+// Writes a line.
+pub(crate) fn write_line(numbers: &[u64], page: &mut Page<'_>)
+    ensures { Adds (line numbers.now) page.old page.new }
 {
-    let mut j = i;
-    for k in 0..numbers.len() {
-        j = write_item(numbers[k], k + 1 < numbers.len(), out, j);
+    for (k, n) in numbers.iter().enumerate() {
+        write_item(*n, k + 1 < numbers.len(), page);
     }
-    j
 }

@@ -1,13 +1,14 @@
 // The lines of a location table.
-ghost use Rattle.std.specs.Prelude.{◌≡◌, ◌+◌, ◌<◌, ◌≤◌, ◌^◌, length};
+ghost use Rattle.std.specs.Prelude.{◌≡◌, ◌≤◌, length};
 ghost use Rattle.meaning.specs.declared.Form.TheVariants.{Table};
 ghost use Rattle.meaning.specs.Sizes.{length_of};
 ghost use Rattle.meaning.specs.Program.{parts};
 ghost use Rattle.program_part.specs.Readable.{Readable};
-ghost use Rattle.desk_format.specs.Writing.{Written};
-ghost use Rattle.desk_listing.specs.Listing.{line, size_numbers, row_numbers, row_lines, table_text};
+ghost use Rattle.desk_format.specs.Pages.{Adds};
+ghost use Rattle.desk_listing.specs.Listing.{size_numbers, row_numbers, row_line, row_lines, table_text};
 
 use crate::lines::write_line;
+use desk_format::page::Page;
 use meaning::{Form, Number};
 use program_part::layout::{clocks, end_at, next_at, parent_at, parts, variables};
 use program_walk::walker::entry_at;
@@ -17,9 +18,9 @@ fn size_numbers(table: &[u8]) -> [u64; 3]
     ensures { result ≡ size_numbers table.now }
 {
     [
-        parts(table) as u64,
-        variables(table) as u64,
-        clocks(table) as u64,
+        u64::from(parts(table)),
+        u64::from(variables(table)),
+        u64::from(clocks(table)),
     ]
 }
 
@@ -34,47 +35,41 @@ fn row_numbers(table: &[u8], p: Number) -> [u64; 9]
     let parent = parent_at(table, p);
     let next = next_at(table, p);
     [
-        p as u64,
-        part.kind as u64,
-        end as u64,
-        parent as u64,
-        next as u64,
-        o.b0 as u64,
-        o.b1 as u64,
-        o.b2 as u64,
-        o.b3 as u64,
+        u64::from(p),
+        u64::from(part.kind),
+        u64::from(end),
+        u64::from(parent),
+        u64::from(next),
+        u64::from(o.b0),
+        u64::from(o.b1),
+        u64::from(o.b2),
+        u64::from(o.b3),
     ]
 }
 
 // Writes the line of row p.
-fn write_row_line(table: &[u8], p: Number, out: &mut [u8], i: usize) -> usize
-    requires readable { Readable Table table.now p }
-    requires p_bound { i + length (line (row_numbers table.now p)) < 2 ^ 64 }
-    ensures { Written (line (row_numbers table.now p)) out.old i out.new result }
+fn write_row_line(table: &[u8], p: Number, page: &mut Page<'_>)
+    requires { Readable Table table.now p }
+    ensures { Adds (row_line table.now p) page.old page.new }
 {
-    let numbers = row_numbers(table, p);
-    write_line(&numbers, out, i)
+    write_line(&row_numbers(table, p), page);
 }
 
 // Writes the line of every row.
-fn write_row_lines(table: &[u8], out: &mut [u8], i: usize) -> usize
-    requires table_in_bounds { length_of Table (parts table.now) ≤ length table.now }
-    requires table_bound { i + length (row_lines table.now 0 (parts table.now)) < 2 ^ 64 }
-    ensures { Written (row_lines table.now 0 (parts table.now)) out.old i out.new result }
+fn write_row_lines(table: &[u8], page: &mut Page<'_>)
+    requires { length_of Table (parts table.now) ≤ length table.now }
+    ensures { Adds (row_lines table.now 0 (parts table.now)) page.old page.new }
 {
-    let mut j = i;
     for p in 0..parts(table) {
-        j = write_row_line(table, p, out, j);
+        write_row_line(table, p, page);
     }
-    j
 }
 
 // Writes the sizes, then a line for each part.
-pub(crate) fn write_table_text(table: &[u8], out: &mut [u8]) -> usize
+pub(crate) fn write_table_text(table: &[u8], page: &mut Page<'_>)
     requires { length_of Table (parts table.now) ≤ length table.now }
-    ensures { Written (table_text table.now) out.old 0 out.new result }
+    ensures { Adds (table_text table.now) page.old page.new }
 {
-    let numbers = size_numbers(table);
-    let i = write_line(&numbers, out, 0);
-    write_row_lines(table, out, i)
+    write_line(&size_numbers(table), page);
+    write_row_lines(table, page);
 }

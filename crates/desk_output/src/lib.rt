@@ -3,44 +3,39 @@
 
 mod reasons;
 
-ghost use Rattle.std.specs.Prelude.{◌≤◌, length};
+ghost use Rattle.std.specs.Prelude.{◌≡◌};
+ghost use Rattle.std.specs.Result.{result_ok};
 
-use crate::reasons::{MAX_REASON, write_reason};
+use crate::reasons::{MAX_REASON, reason_of};
 use desk_arguments::messages::{MAX_MESSAGE, is_asked, write_message};
 use desk_arguments::{Command, Request};
 use std::io;
 
-// Writes the first n bytes of a text to standard output. Where that fails, it says why.
-pub fn print<O: Print, E: Print>(output: &O, errors: &E, text: &[u8], n: usize) -> bool
-    requires { n ≤ length text.now }
+// What came of a call of the system. Where it failed, it says why, and nothing came of it.
+pub fn reported<T: Drop, E: Print>(errors: &E, what: &[u8], done: io::Result<T>) -> Option<T>
+    ensures { result ≡ result_ok done }
 {
-    match output.write_all(&text[..n]) {
-        Ok(()) => true,
-        Err(why) => {
-            print_failure(errors, b"standard output", why);
-            false
-        }
-    }
+    done.inspect_err(|why| print_failure(errors, what, *why))
+        .ok()
 }
 
-// Writes the first n bytes of a message to standard error.
-pub fn print_error<E: Print>(errors: &E, message: &[u8], n: usize)
-    requires { n ≤ length message.now }
-{
-    match errors.write_all(&message[..n]) {
-        Ok(()) => {}
-        Err(_) => {}
-    }
+// Writes a text to standard output, and answers whether it is written. Where it is not, it says why.
+pub fn print<O: Print, E: Print>(output: &O, errors: &E, text: &[u8]) -> bool {
+    reported(errors, b"standard output", output.write_all(text)).is_some()
+}
+
+// Writes a message to standard error. Where that fails, there is nowhere to say so.
+pub fn print_error<E: Print>(errors: &E, message: &[u8]) {
+    let _ = errors.write_all(message);
 }
 
 // Writes a line to standard error: what failed, as the caller names it, a colon and the reason.
 pub fn print_failure<E: Print>(errors: &E, what: &[u8], why: io::Error) {
     let mut reason = [0u8; MAX_REASON];
-    let n = write_reason(why, &mut reason);
-    print_error(errors, what, what.len());
-    print_error(errors, b": ", 2);
-    print_error(errors, &reason, n);
-    print_error(errors, b"\n", 1);
+    print_error(errors, what);
+    print_error(errors, b": ");
+    print_error(errors, reason_of(why, &mut reason));
+    print_error(errors, b"\n");
 }
 
 // Prints the message of a request.
@@ -53,8 +48,8 @@ pub fn print_message<O: Print, E: Print>(
     let mut text = [0u8; MAX_MESSAGE];
     let n = write_message(command, request, &mut text);
     if is_asked(request) {
-        print(output, errors, &text, n);
+        print(output, errors, &text[..n]);
     } else {
-        print_error(errors, &text, n);
+        print_error(errors, &text[..n]);
     }
 }

@@ -1,6 +1,4 @@
 // The reason of a read or a write that failed, in the system's words.
-ghost use Rattle.std.specs.Prelude.{◌≤◌, length};
-
 use std::io::{Error, Write};
 
 // Room for the longest reason.
@@ -9,35 +7,25 @@ pub(crate) const MAX_REASON: usize = 320;
 // What follows the system's words where std writes an error.
 const NUMBER: &[u8] = b" (os error ";
 
-// Writes the reason at the buffer's beginning, and gives its length.
-pub(crate) fn write_reason(why: Error, out: &mut [u8]) -> usize
-    ensures { result ≤ length out.new }
-{
-    let n = write_error(why, out);
-    words(&out[..n])
+// The reason, written into a buffer.
+pub(crate) fn reason_of(why: Error, out: &mut [u8]) -> &[u8] {
+    words(write_error(why, out))
 }
 
 // Writes an error as std does, as far as there is room.
-fn write_error(why: Error, out: &mut [u8]) -> usize
-    ensures { result ≤ length out.new }
-{
+fn write_error(why: Error, out: &mut [u8]) -> &[u8] {
     let room = out.len();
-    let mut rest: &mut [u8] = out;
-    match write!(rest, "{why}") {
-        Ok(()) => {}
-        Err(_) => {}
-    }
-    room.saturating_sub(rest.len())
+    let mut rest: &mut [u8] = &mut *out;
+    let _ = write!(rest, "{why}");
+    let n = room.saturating_sub(rest.len());
+    &out[..n]
 }
 
-// How many bytes of an error are the system's words.
-fn words(text: &[u8]) -> usize
-    ensures { result ≤ length text.now }
-{
-    for i in 0..text.len() {
-        if text[i..].starts_with(NUMBER) {
-            return i;
-        }
-    }
-    text.len()
+// The system's words of an error.
+fn words(text: &[u8]) -> &[u8] {
+    let n = text
+        .windows(NUMBER.len())
+        .position(|part| part == NUMBER)
+        .unwrap_or(text.len());
+    &text[..n]
 }

@@ -1,27 +1,35 @@
 -- Laws of pairs read one after the other.
-use Prim.Native.Nat.{ℕ, suc, ◌+◌, ◌≤◌, ◌<◌}
+use Prim.Native.Nat.{ℕ, ◌+◌, ◌-◌, ◌≤◌, ◌<◌}
 use native.Mathlib.Nat.{add-zero, zero-add}
 use native.Mathlib.Numerals.{add-one}
 use native.Mathlib.Omega.{arith}
-use mathlib.Core.Path.{◌≡◌, refl, sym, ◌∙◌}
-use mathlib.Core.Bool.{Bool, true, false, not}
+use mathlib.Core.Path.{◌≡◌, refl}
+use mathlib.Core.Bool.{Bool, true, false, cond}
 use mathlib.Core.List.{List, [], ◌∷◌}
-use lib.ListN.{length, get_or, drop, set, drop_of_length-le}
-use lib.Seq.{sets, drop-cons, drop-drop, get_or-drop}
-use borrow.Author.Tests.{ne_eqb, not-true, not-false}
-use Rattle.desk_parse.specs.declared.Pairs.TheVariants.{Whole, Broken}
-use Rattle.desk_parse.specs.Words.{digit_of, is_pair, pair_byte, pair_bytes, pairs_only, pairs_of}
-use Rattle.desk_parse.proofs.Digits.{pair_digits}
+use lib.ListN.{length, get_or, take, drop, set}
+use lib.Seq.{sets}
+use borrow.Author.Tests.{ne_eqb}
+use Rattle.std.proofs.Common.{Some, None}
+use Rattle.std.proofs.lemmas.Option.{cond_some}
+use Rattle.base.proofs.Stores.{take_rest}
+use Rattle.desk_parse.specs.Words.{is_pair, pair_byte, pair_read, pair_bytes, pairs_only, pairs_of}
 
--- Pairs of s are read into l: n bytes of those before place i have been stored, which has come to m
-pub record Reading (s l m : List ℕ) (i n : ℕ) : Type 0 where
-  pub few : n ≤ i
-  pub completes : sets m n (pair_bytes (drop i s)) ≡ sets l 0 (pair_bytes s)
-  pub counts : n + length (pair_bytes (drop i s)) ≡ length (pair_bytes s)
-  pub sound : pairs_only (drop i s) ≡ pairs_only s
+-- Pairs of s are read into l: n bytes of those before the rest r have been stored, which has come to m
+pub record Reading (s l m r : List ℕ) (n : ℕ) : Type 0 where
+  pub few : n + length r ≤ length s
+  pub completes : sets m n (pair_bytes r) ≡ sets l 0 (pair_bytes s)
+  pub counts : n + length (pair_bytes r) ≡ length (pair_bytes s)
+  pub sound : pairs_only r ≡ pairs_only s
 
-pub reading_starts : (s l : List ℕ) → Reading s l l 0 0
+pub reading_starts : (s l : List ℕ) → Reading s l l s 0
 reading_starts s l = record { few = omega arith; completes = refl; counts = zero-add (length (pair_bytes s)); sound = refl }
+
+-- a text without its first byte, as the code takes it
+abbrev pub after_first : List ℕ → List ℕ
+after_first r = take (length r - 1) (drop 1 r)
+
+after : (x : ℕ) (r : List ℕ) → after_first (x ∷ r) ≡ r
+after x r = take_rest (x ∷ r) 1
 
 -- What a space, a fault and a pair at the beginning make of the rest r
 space_first : (r : List ℕ) → (pair_bytes (32 ∷ r) ≡ pair_bytes r) × (pairs_only (32 ∷ r) ≡ pairs_only r)
@@ -29,68 +37,75 @@ unfolding pair_bytes pairs_only
 space_first [] = (refl, refl)
 space_first (z ∷ r) = (refl, refl)
 
-module _ (x : ℕ) (other : x ≡ 32 → ⊥) where
-  fault_first : (r : List ℕ) → is_pair x (get_or r 0 0) ≡ false → (pair_bytes (x ∷ r) ≡ []) × (pairs_only (x ∷ r) ≡ false)
+refused_pair : (b : Bool) (v : ℕ) → cond b (Some v) None ≡ None → b ≡ false
+refused_pair true v e = cc
+refused_pair false v e = refl
+
+module _ (x y : ℕ) (r : List ℕ) (other : x ≡ 32 → ⊥) where
+  fault_first : pair_read x y ≡ None → (pair_bytes (x ∷ y ∷ r) ≡ []) × (pairs_only (x ∷ y ∷ r) ≡ false)
   unfolding pair_bytes pairs_only
-  fault_first [] h = (refl, ne_eqb x 32 other)
-  fault_first (z ∷ r) h = (rw (ne_eqb x 32 other, h), rw (ne_eqb x 32 other, h))
+  fault_first e = let h = refused_pair (is_pair x y) (pair_byte x y) e in (rw (ne_eqb x 32 other, h), rw (ne_eqb x 32 other, h))
 
-  pair_first : (r : List ℕ) → is_pair x (get_or r 0 0) ≡ true → (pair_bytes (x ∷ r) ≡ pair_byte x (get_or r 0 0) ∷ pair_bytes (drop 1 r)) × (pairs_only (x ∷ r) ≡ pairs_only (drop 1 r))
-  unfolding pair_bytes pairs_only digit_of
-  pair_first [] h = absurd (omega (arith, (pair_digits x 0 h).1))
-  pair_first (z ∷ r) h = (rw (ne_eqb x 32 other, h), rw (ne_eqb x 32 other, h))
+  pair_first : (b : ℕ) → pair_read x y ≡ Some b → (pair_bytes (x ∷ y ∷ r) ≡ b ∷ pair_bytes r) × (pairs_only (x ∷ y ∷ r) ≡ pairs_only r)
+  unfolding pair_bytes pairs_only
+  pair_first b e = let h = cond_some (is_pair x y) (pair_byte x y) b e in (rw (ne_eqb x 32 other, h.0, h.1), rw (ne_eqb x 32 other, h.0))
 
--- A turn, by the byte at its place and the next
-module _ (s l m : List ℕ) (i n x : ℕ) (x-is : x ≡ get_or s i 0) (h : i < length s) (w : Reading s l m i n) where
-  left : drop i s ≡ x ∷ drop (suc i) s
-  left = rw x-is (drop-cons s i 0 h)
+-- What is read where the rest begins with a fault, and where nothing is left
+ended : (s l m r : List ℕ) (n : ℕ) → Reading s l m r n → pair_bytes r ≡ [] → m ≡ sets l 0 (pair_bytes s)
+ended s l m r n w e = rw e at w.completes
 
-  pub reading_space : x ≡ 32 → Reading s l m (i + 1) n
-  reading_space e =
-      let f = space_first (drop (suc i) s) in
-      let d : drop i s ≡ 32 ∷ drop (suc i) s = left ∙ rw e in
-      record {
+faulty : (s l m r : List ℕ) (n : ℕ) → Reading s l m r n → pairs_only r ≡ false → None ≡ pairs_of s
+unfolding pairs_of
+faulty s l m r n w e = rw (← w.sound, e)
+
+module _ (s l m : List ℕ) (n : ℕ) where
+  -- a turn, by the byte at the beginning and the next
+  pub reading_space : (r : List ℕ) → 1 ≤ length r → get_or r 0 0 ≡ 32 → Reading s l m r n → Reading s l m (after_first r) n
+  reading_space [] h e w = absurd (omega arith)
+  reading_space (x ∷ r) h e w =
+      let f = space_first r in
+      rw after record {
         few = omega (arith, w.few);
-        completes = rw (add-one i, ← f.0, ← d) w.completes;
-        counts = rw (add-one i, ← f.0, ← d) w.counts;
-        sound = rw (add-one i, ← f.1, ← d) w.sound;
+        completes = rw (← f.0, ← e) w.completes;
+        counts = rw (← f.0, ← e) w.counts;
+        sound = rw (← f.1, ← e) w.sound;
       }
 
-  module _ (y : ℕ) (y-is : y ≡ get_or s (i + 1) 0) (other : x ≡ 32 → ⊥) (p : Bool) (p-is : p ≡ is_pair x y) where
-    second : y ≡ get_or (drop (suc i) s) 0 0
-    second = y-is ∙ rw (add-one i) (sym (get_or-drop (suc i) s 0 0 ∙ rw add-zero))
+  pub pair_missing : (r : List ℕ) → 1 ≤ length r → length (after_first r) < 1 → (get_or r 0 0 ≡ 32 → ⊥) → Reading s l m r n → (None ≡ pairs_of s) × (m ≡ sets l 0 (pair_bytes s))
+  unfolding pair_bytes pairs_only
+  pair_missing [] h k other w = absurd (omega arith)
+  pair_missing (x ∷ []) h k other w = (faulty s l m (x ∷ []) n w (ne_eqb x 32 other), ended s l m (x ∷ []) n w refl)
+  pair_missing (x ∷ y ∷ r) h k other w = absurd (omega (arith, rw after at k))
 
-    faulty : not p ≡ true → (pair_bytes (drop i s) ≡ []) × (pairs_only (drop i s) ≡ false)
-    faulty f = rw left (fault_first x other (drop (suc i) s) (rw (← second, ← p-is) (not-true p f)))
+  module _ (r : List ℕ) (h : 1 ≤ length (after_first r)) (other : get_or r 0 0 ≡ 32 → ⊥) (w : Reading s l m r n) where
+    pub pair_refused : pair_read (get_or r 0 0) (get_or (after_first r) 0 0) ≡ None → (None ≡ pairs_of s) × (m ≡ sets l 0 (pair_bytes s))
+    pair_refused = go r h other w
+      where
+        go : (r : List ℕ) → 1 ≤ length (after_first r) → (get_or r 0 0 ≡ 32 → ⊥) → Reading s l m r n → pair_read (get_or r 0 0) (get_or (after_first r) 0 0) ≡ None → (None ≡ pairs_of s) × (m ≡ sets l 0 (pair_bytes s))
+        go [] h other w e = absurd (omega arith)
+        go (x ∷ []) h other w e = absurd (omega arith)
+        go (x ∷ y ∷ r) h other w e =
+            let f = fault_first x y r other (rw after at e) in
+            (faulty s l m (x ∷ y ∷ r) n w f.1, ended s l m (x ∷ y ∷ r) n w f.0)
 
-    pub fault_found : not p ≡ true → Broken ≡ pairs_of s
-    unfolding pairs_of
-    fault_found f = rw (← w.sound, (faulty f).1)
+    pub reading_pair : (b : ℕ) (o : List ℕ) → pair_read (get_or r 0 0) (get_or (after_first r) 0 0) ≡ Some b → o ≡ set m n b → Reading s l o (after_first (after_first r)) (n + 1)
+    reading_pair = go r h other w
+      where
+        go : (r : List ℕ) → 1 ≤ length (after_first r) → (get_or r 0 0 ≡ 32 → ⊥) → Reading s l m r n → (b : ℕ) (o : List ℕ) → pair_read (get_or r 0 0) (get_or (after_first r) 0 0) ≡ Some b → o ≡ set m n b → Reading s l o (after_first (after_first r)) (n + 1)
+        go [] h other w b o e o_is = absurd (omega arith)
+        go (x ∷ []) h other w b o e o_is = absurd (omega arith)
+        go (x ∷ y ∷ r) h other w b o e o_is =
+            let f = pair_first x y r other b (rw after at e) in
+            rw (after, after) record {
+              few = omega (arith, w.few);
+              completes = rw (o_is, add-one n) (rw f.0 at w.completes);
+              counts = omega (arith, rw f.0 at w.counts);
+              sound = rw (← f.1) w.sound;
+            }
 
-    pub fault_stored : not p ≡ true → m ≡ sets l 0 (pair_bytes s)
-    fault_stored f = rw (faulty f).0 at w.completes
-
-    pub reading_pair : (b : ℕ) (o : List ℕ) → not p ≡ false → b ≡ pair_byte x y → o ≡ set m n b → Reading s l o (i + 2) (n + 1)
-    reading_pair b o f b-is o_is =
-        let g = pair_first x other (drop (suc i) s) (rw (← second, ← p-is) (not-false p f)) in
-        let k : suc i + 1 ≡ i + 2 = omega arith in
-        let d : drop 1 (drop (suc i) s) ≡ drop (i + 2) s = drop-drop 1 (suc i) s ∙ rw k in
-        let e : pair_bytes (drop i s) ≡ b ∷ pair_bytes (drop (i + 2) s) = rw (left, b-is, second, ← d) g.0 in
-        record {
-          few = omega (arith, w.few);
-          completes = rw (o_is, add-one n) (rw e at w.completes);
-          counts = omega (arith, rw e at w.counts);
-          sound = rw (← d, ← g.1, ← left) w.sound;
-        }
-
--- The end
-module _ (s l m : List ℕ) (i n : ℕ) (w : Reading s l m i n) (h : length s ≤ i) where
-  pub whole_found : Whole n ≡ pairs_of s
+  pub whole_read : (r : List ℕ) → length r < 1 → Reading s l m r n → (Some n ≡ pairs_of s) × (m ≡ sets l 0 (pair_bytes s))
   unfolding pair_bytes pairs_only pairs_of
-  whole_found =
-      let e : n ≡ length (pair_bytes s) = rw (drop_of_length-le s h, add-zero) at w.counts in
-      rw (← (rw (drop_of_length-le s h) at w.sound), e)
-
-  pub whole_stored : m ≡ sets l 0 (pair_bytes s)
-  unfolding pair_bytes
-  whole_stored = rw (drop_of_length-le s h) at w.completes
+  whole_read [] h w =
+      let e : n ≡ length (pair_bytes s) = rw add-zero at w.counts in
+      (rw (← w.sound, e), ended s l m [] n w refl)
+  whole_read (x ∷ r) h w = absurd (omega arith)

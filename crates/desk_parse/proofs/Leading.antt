@@ -1,17 +1,18 @@
--- Laws of what a text begins with, and of the loops over a text: what a turn, a turn that stops and the end of the loop make of what is left from i on.
+-- Laws of what a text begins with, and of the first place at which a byte stands, as an iterator finds them.
 use Prim.Native.Nat.{ℕ, zero, suc, ◌+◌, ◌-◌, ◌≤◌, ◌<◌}
-use native.Mathlib.Nat.{zero-add, sub-zero, add-zero, add-suc, suc-add}
-use native.Mathlib.Numerals.{add-one}
+use native.Mathlib.Nat.{add-zero}
 use native.Mathlib.Omega.{arith}
 use mathlib.Core.Path.{◌≡◌, refl, sym, ◌∙◌}
-use mathlib.Core.Bool.{Bool, true, false, cond}
+use mathlib.Core.Bool.{Bool, true, false, cond, not}
 use mathlib.Core.List.{List, [], ◌∷◌}
-use lib.Dec.{leb}
-use lib.ListN.{length, get_or, take, drop, drop_of_length-le}
-use lib.Seq.{drop-cons, length-take-le}
-use borrow.Author.Tests.{eq-eqb, ne_eqb, le-leb, leb-true}
+use lib.Dec.{leb, ltb}
+use lib.ListN.{length, get_or, take, drop}
+use borrow.Author.Tests.{eq-eqb, ne_eqb, le-leb, leb-true, ltb-false}
+use Rattle.std.proofs.Common.{Option, Some, None}
+use Rattle.std.specs.List.{prefix_len, position_or_len}
+use Rattle.std.specs.Option.{MatchOption, unwrap_or}
 use Rattle.base.specs.Lists.{bytes_at}
-use Rattle.base.proofs.Stores.{take_rest, bytes_all, length_bytes}
+use Rattle.base.proofs.Stores.{take_rest, length_bytes}
 use Rattle.desk_parse.specs.Words.{is_space, is_other, leading, trimmed, word_of, rest_of}
 use Rattle.desk_parse.specs.Places.{place_of}
 
@@ -48,6 +49,24 @@ leading_stops t (x ∷ xs) h = go (t x) refl (leading_stops t xs) h
 pub leading_within : (t : ℕ → Bool) (l : List ℕ) (n : ℕ) → n ≡ leading t l → n ≤ length l
 leading_within t l n e = rw e (leading_few t l)
 
+-- the first place at which the test fails, as an iterator finds it, or the length
+module _ (t f : ℕ → Bool) (f-is : (x : ℕ) → f x ≡ not (t x)) where
+  leading_counted : (l : List ℕ) → prefix_len (λ x. not (f x)) l ≡ leading t l
+  unfolding leading
+  leading_counted [] = refl
+  leading_counted (x ∷ xs) = rw (f-is x, leading_counted xs) (one (t x) (leading t xs))
+    where
+      one : (b : Bool) (n : ℕ) → cond (not (not b)) (1 + n) 0 ≡ cond b (suc n) 0
+      one true n = omega arith
+      one false n = refl
+
+  pub leading_found : (l : List ℕ) (r : Option ℕ) → r ≡ cond (ltb (position_or_len f l) (length l)) (Some (position_or_len f l)) None → unwrap_or r (length l) ≡ leading t l
+  leading_found l r e = rw (e, leading_counted l) (go (ltb (leading t l) (length l)) refl)
+    where
+      go : (b : Bool) → ltb (leading t l) (length l) ≡ b → unwrap_or (cond b (Some (leading t l)) None) (length l) ≡ leading t l
+      go true h = refl
+      go false h = omega (arith, ltb-false _ _ h, leading_few t l)
+
 -- A text after its leading spaces, its first word and what stands after it
 module _ (l : List ℕ) (n : ℕ) where
   pub after_spaces : n ≡ leading is_space l → take (length l - n) (drop n l) ≡ trimmed l
@@ -55,58 +74,44 @@ module _ (l : List ℕ) (n : ℕ) where
   after_spaces e = take_rest l n ∙ rw e
 
   module _ (e : n ≡ leading (is_other 32) l) where
-    pub word_length : n ≡ length (take n l)
-    word_length = sym (length-take-le n l (leading_within (is_other 32) l n e))
-
     pub first_word : take n l ≡ word_of l
     unfolding word_of
     first_word = rw e
 
-    pub after_word : take (length l - n) (drop n l) ≡ rest_of l
+    pub after_word : drop n l ≡ rest_of l
     unfolding rest_of
-    after_word = take_rest l n ∙ rw e
+    after_word = rw e
 
--- The spaces that a text begins with
-module _ (s : List ℕ) (i x : ℕ) (inv : i + leading is_space (drop i s) ≡ x) where
-  pub space_next : i < length s → get_or s i 0 ≡ 32 → i + 1 + leading is_space (drop (i + 1) s) ≡ x
+-- The first byte b, and no such byte
+module _ (b : ℕ) (s : List ℕ) (to : ℕ) where
+  counted_to : (n from i : ℕ) → from + n ≡ i → i < to → get_or s i 0 ≡ b → ((k : ℕ) → from ≤ k → k < i → get_or s k 0 ≡ b → ⊥) → leading (is_other b) (bytes_at s from (to - from)) ≡ n
   unfolding leading
-  space_next h e = rw (add-one i) (omega (arith, rw (drop-cons s i 0 h, e) at inv))
+  counted_to zero from i e h here before =
+      let k : to - from ≡ suc (to - suc from) = omega arith in
+      let d : get_or s from 0 ≡ b = rw (sym e ∙ add-zero from) at here in
+      rw (k, eq-eqb (get_or s from 0) b d)
+  counted_to (suc n) from i e h here before =
+      let k : to - from ≡ suc (to - suc from) = omega arith in
+      rw (k, ne_eqb (get_or s from 0) b (before from (omega arith) (omega arith)), counted_to n (suc from) i (omega arith) h here (λ j l m. before j (omega arith) m))
 
-  pub space_stops : i < length s → (get_or s i 0 ≡ 32 → ⊥) → i ≡ x
+  counted_all : (n from : ℕ) → from + n ≡ to → ((k : ℕ) → from ≤ k → k < to → get_or s k 0 ≡ b → ⊥) → leading (is_other b) (bytes_at s from n) ≡ n
   unfolding leading
-  space_stops h e = rw (drop-cons s i 0 h, ne_eqb (get_or s i 0) 32 e, add-zero) at inv
+  counted_all zero from e none = refl
+  counted_all (suc n) from e none =
+      rw (ne_eqb (get_or s from 0) b (none from (omega arith) (omega arith)), counted_all n (suc from) (omega arith) (λ j l m. none j (omega arith) m))
 
-  pub space_ends : i ≤ length s → length s ≤ i → length s ≡ x
-  unfolding leading
-  space_ends few h = omega (arith, rw (drop_of_length-le s h, add-zero) at inv)
-
--- The first byte b
-module _ (b : ℕ) (s : List ℕ) (i to x y : ℕ) (y-is : y ≡ get_or s i 0) (inv : place_of b s i to ≡ x) where
-  pub place_here : i < to → y ≡ b → i ≡ x
-  unfolding place_of leading
-  place_here h e =
-      let k : to - i ≡ suc (to - suc i) = omega arith in
-      let l : i ≤ to = omega arith in
-      let d : get_or s i 0 ≡ b = sym y-is ∙ e in
-      rw (le-leb i to l, k, eq-eqb (get_or s i 0) b d, add-zero) at inv
-
-  pub place_next : i < to → (y ≡ b → ⊥) → place_of b s (i + 1) to ≡ x
-  unfolding place_of leading
-  place_next h e =
-      let k : to - i ≡ suc (to - suc i) = omega arith in
-      let l : i ≤ to = omega arith in
-      let d : (get_or s i 0 ≡ b → ⊥) = λ z. e (y-is ∙ z) in
-      rw (add-one i, le-leb (suc i) to h, suc-add) (rw (le-leb i to l, k, ne_eqb (get_or s i 0) b d, add-suc) at inv)
-
-pub place_ends : (b : ℕ) (s : List ℕ) (i to x : ℕ) → place_of b s i to ≡ x → to ≤ i → to ≡ x
-unfolding place_of leading
-place_ends b s i to x inv h = sym (go (leb i to) refl) ∙ inv
-  where
-    go : (c : Bool) → leb i to ≡ c → cond c (i + leading (is_other b) (bytes_at s i (to - i))) to ≡ to
-    go true e =
-        let k : to - i ≡ 0 = omega arith in
-        rw (k, add-zero) (omega (arith, leb-true i to e))
-    go false e = refl
+  pub place_found : (from : ℕ) (r : Option ℕ) → MatchOption r ((k : ℕ) → from ≤ k → k < to → get_or s k 0 ≡ b → ⊥) (λ i. (from ≤ i) × (i < to) × (get_or s i 0 ≡ b) × ((k : ℕ) → from ≤ k → k < i → get_or s k 0 ≡ b → ⊥)) → unwrap_or r to ≡ place_of b s from to
+  unfolding place_of
+  place_found from (Some i) (low, high, here, before) =
+      let l : from ≤ to = omega arith in
+      rw (le-leb from to l, counted_to (i - from) from i (omega arith) high here before) (omega arith)
+  place_found from None none = go (leb from to) refl
+    where
+      go : (c : Bool) → leb from to ≡ c → to ≡ cond c (from + leading (is_other b) (bytes_at s from (to - from))) to
+      go true e =
+          let l = leb-true from to e in
+          rw (counted_all (to - from) from (omega arith) none) (omega arith)
+      go false e = refl
 
 -- it is no place before `from` and none after `to`
 pub place_within : (b : ℕ) (s : List ℕ) (from to : ℕ) → from ≤ to → (from ≤ place_of b s from to) × (place_of b s from to ≤ to)
@@ -114,8 +119,3 @@ unfolding place_of
 place_within b s from to h =
     let k = leading_few (is_other b) (bytes_at s from (to - from)) in
     rw (le-leb from to h) (omega arith, omega (arith, k, length_bytes s from (to - from)))
-
--- in a whole text it is where the bytes that are not b end
-pub place_all : (b : ℕ) (s : List ℕ) (r : ℕ) → r ≡ place_of b s 0 (length s) → r ≡ leading (is_other b) s
-unfolding place_of
-place_all b s r e = e ∙ rw (le-leb 0 (length s) (omega arith), zero-add, sub-zero, bytes_all)

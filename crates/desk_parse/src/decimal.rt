@@ -2,38 +2,29 @@
 ghost use Rattle.std.specs.Prelude.{◌≡◌};
 ghost use Rattle.desk_parse.specs.Words.{next_value, numeral_of};
 
-use crate::Numeral;
-use crate::hexadecimal::digit;
+// What a decimal digit is read in.
+const TEN: u32 = 10;
 
-// Numbers are below 2^32.
-const LIMIT: u64 = 4294967296;
-
-// The number that x goes on to with one digit more. The largest is below 2^36, so 64 bits hold it.
-fn next_value(x: u32, d: u8) -> Numeral
+// The number that x goes on to with one digit more. Numbers are below 2^32.
+#[tactic(auto, unfolding(crate::specs::Words::digit_of, crate::specs::Words::next_value))]
+fn next_value(x: u32, d: u8) -> Option<u32>
     ensures { result ≡ next_value x d }
 {
-    let v = digit(d) as u64;
-    let y = 10 * (x as u64) + v;
-    if (v < 10) & (y < LIMIT) {
-        Numeral::Value(y as u32)
-    } else {
-        Numeral::NoNumber
-    }
+    let v = char::from(d).to_digit(TEN)?;
+    x.checked_mul(TEN)?.checked_add(v)
 }
 
-// A word as a number.
-pub fn numeral(word: &[u8]) -> Numeral
+// A word as a number below 2^32.
+#[tactic(auto, using(crate::proofs::Digits::value_missing, crate::proofs::Digits::value_starts, crate::proofs::Digits::value_stops, crate::proofs::Digits::value_ends))]
+pub fn numeral(word: &[u8]) -> Option<u32>
     ensures { result ≡ numeral_of word.now }
 {
-    if word.len() == 0 {
-        return Numeral::NoNumber;
+    if word.is_empty() {
+        return None;
     }
-    let mut x: u32 = 0;
-    for i in 0..word.len() {
-        let Numeral::Value(y) = next_value(x, word[i]) else {
-            return Numeral::NoNumber;
-        };
-        x = y;
+    let mut x = 0;
+    for d in word {
+        x = next_value(x, *d)?;
     }
-    Numeral::Value(x)
+    Some(x)
 }

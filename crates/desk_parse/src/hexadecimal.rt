@@ -1,65 +1,51 @@
 // Bytes as pairs of hexadecimal digits.
-ghost use Rattle.std.specs.Prelude.{◌≡◌, true};
+ghost use Rattle.std.specs.Prelude.{◌≡◌};
 ghost use Rattle.std.proofs.lemmas.List.Edits.{sets};
-ghost use Rattle.desk_parse.specs.Words.{digit_of, is_pair, pair_byte, pair_bytes, pairs_of};
+ghost use Rattle.desk_parse.specs.Words.{digit_read, pair_read, pair_bytes, pairs_of};
 
-use crate::Pairs;
-use base::{at, put};
+use base::put;
 
-// What `digit` gives for a byte that is no digit.
-const NO_DIGIT: u8 = 16;
-
-// What a digit stands for.
-pub(crate) fn digit(b: u8) -> u8
-    ensures { result ≡ digit_of b }
+// What a digit stands for, and nothing for a byte that is no digit.
+#[tactic(auto, unfolding(crate::specs::Words::digit_of))]
+fn digit(b: u8) -> Option<u8>
+    ensures { result ≡ digit_read b }
 {
-    if (b'0' <= b) & (b <= b'9') {
-        return b - b'0';
+    match b {
+        b'0'..=b'9' => Some(b - b'0'),
+        b'A'..=b'F' => Some(b - b'A' + 10),
+        b'a'..=b'f' => Some(b - b'a' + 10),
+        _ => None,
     }
-    if (b'A' <= b) & (b <= b'F') {
-        return b - b'A' + 10;
-    }
-    if (b'a' <= b) & (b <= b'f') {
-        return b - b'a' + 10;
-    }
-    NO_DIGIT
-}
-
-// Whether two bytes are hexadecimal digits.
-fn is_pair(x: u8, y: u8) -> bool
-    ensures { result ≡ is_pair x y }
-{
-    (digit(x) < NO_DIGIT) & (digit(y) < NO_DIGIT)
 }
 
 // The byte that two digits stand for.
-fn pair_byte(x: u8, y: u8) -> u8
-    requires { is_pair x y ≡ true }
-    ensures { result ≡ pair_byte x y }
+fn pair(x: u8, y: u8) -> Option<u8>
+    ensures { result ≡ pair_read x y }
 {
-    16 * digit(x) + digit(y)
+    let high = digit(x)?;
+    let low = digit(y)?;
+    Some(16 * high + low)
 }
 
-// Reads pairs up to the first fault, and stores their bytes from the beginning of `bytes` on.
-pub fn read_pairs(s: &[u8], bytes: &mut [u8]) -> Pairs
+// Reads pairs up to the first fault, stores their bytes from the beginning of `bytes` on, and gives their number
+// where there is no fault. A turn takes one byte or two, so no iterator over the bytes serves.
+pub fn read_pairs(s: &[u8], bytes: &mut [u8]) -> Option<usize>
     ensures value { result ≡ pairs_of s.now }
     ensures bytes_after { bytes.new ≡ sets bytes.old 0 (pair_bytes s.now) }
 {
-    let mut i: usize = 0;
-    let mut n: usize = 0;
-    while i < s.len() {
-        let x = at(s, i);
-        let y = at(s, i + 1);
-        if x == b' ' {
-            i += 1;
+    let mut rest = s;
+    let mut n = 0;
+    while let [x, after @ ..] = rest {
+        if *x == b' ' {
+            rest = after;
             continue;
         }
-        if !is_pair(x, y) {
-            return Pairs::Broken;
-        }
-        put(bytes, n, pair_byte(x, y));
+        let [y, after @ ..] = after else {
+            return None;
+        };
+        put(bytes, n, pair(*x, *y)?);
         n += 1;
-        i += 2;
+        rest = after;
     }
-    Pairs::Whole(n)
+    Some(n)
 }

@@ -5,8 +5,8 @@ use Rattle.desk_calls.specs.declared.Line.{Line}
 use Rattle.desk_calls.specs.declared.Line.TheVariants.{Passed, Begin, Offer, OfferInto, Settle, NotACall}
 use Rattle.desk_calls.specs.Lines.{line_of, bytes_of}
 use Rattle.desk_transcript.specs.Transcript.{parts_text}
-use Rattle.desk_dispatch.specs.declared.Turn.{Turn}
-use Rattle.desk_dispatch.specs.Making.{line_report, record_at, cycles_at, ends_run, Turned}
+use Rattle.desk_rehearsal.specs.declared.Turn.{Turn}
+use Rattle.desk_dispatch.specs.Making.{line_report, record_at, cycles_at, ends_run}
 
 -- A longer line is no call
 abbrev pub max_line : ℕ
@@ -30,6 +30,12 @@ parts_under asked t r = cond asked (parts_text t r) []
 -- the text of a line and, where parts are asked for, the line of the marked parts under it
 abbrev pub answer_text : List ℕ → List ℕ → ℕ → Bool → Line → List ℕ → List ℕ
 answer_text t r number asked line est = line_report t r number line est ++ parts_under (asked && is_call line) t (record_at t r line est)
+
+-- A turn: the text that it writes into a buffer, from its beginning on, the count of cycles after it, and whether it ends the run
+pub record Turned (text : List ℕ) (cycles : ℕ) (ends : Bool) (out out' : List ℕ) (turn : Turn) : Type 0 where
+  pub written : Written text out 0 out' turn.length
+  pub cycles_are : turn.cycles ≡ cycles
+  pub ends_is : turn.ends ≡ ends
 
 -- A line that is answered: the record after it, and what is written
 pub record Answered (t r : List ℕ) (cycles number : ℕ) (asked : Bool) (line r' out out' : List ℕ) (turn : Turn) : Type 0 where
@@ -57,9 +63,3 @@ Carried NotACall bytes est = Unit {0}
 pub record LineParsed (line bytes : List ℕ) (x : Line) : Type 0 where
   pub line_is : x ≡ parsed_line line
   pub carried : Carried x bytes (bytes_of line)
-
--- The marked parts, written after the text of a turn where they are asked for
-pub record Under (asked : Bool) (t r : List ℕ) (turn : Turn) (out out' : List ℕ) (turn' : Turn) : Type 0 where
-  pub written : Written (parts_under asked t r) out turn.length out' turn'.length
-  pub cycles_are : turn'.cycles ≡ turn.cycles
-  pub ends_is : turn'.ends ≡ turn.ends

@@ -4,41 +4,36 @@
 pub mod opening;
 pub mod parsing;
 
-ghost use Rattle.std.specs.Prelude.{◌+◌, ◌≤◌, ◌<◌, ◌^◌, length};
+ghost use Rattle.std.specs.Prelude.{◌≤◌};
 ghost use Rattle.desk_format.specs.Writing.{Written};
+ghost use Rattle.desk_format.specs.Pages.{Adds};
 ghost use Rattle.desk_transcript.specs.Transcript.{summary_text, max_answer, max_summary};
-ghost use Rattle.desk_rehearsal.specs.Rehearsal.{parts_under, Answered, Under};
+ghost use Rattle.desk_rehearsal.specs.Rehearsal.{parts_under, Answered};
 
 use crate::parsing::{estimate_length, is_call, parse_line};
-use desk_dispatch::Turn;
-use desk_dispatch::making::make_call;
+use desk_dispatch::making::{ends_run, make_call};
+use desk_format::page::Page;
 use desk_transcript::parts::write_parts;
 use desk_transcript::summary::write_summary;
 
 // The longest line that can be a call.
 pub const MAX_LINE: usize = 4095;
 
-// Whether a program file is accepted, and the length of its table; where it is refused, the length of the text that
-// says why.
-#[derive(Clone, Copy)]
-pub struct Opened {
-    pub accepted: bool,
+// What one line leads to: the length of the text that is written for it, the count of cycles after it, and whether
+// it ends the run.
+#[derive(Clone, Copy, PartialEq, Eq)]
+pub struct Turn {
     pub length: usize,
+    pub cycles: u64,
+    pub ends: bool,
 }
 
-// Writes the marked parts after the text of a turn, where they are asked for.
-fn add_parts(t: &[u8], r: &[u8], asked: bool, turn: Turn, out: &mut [u8]) -> Turn
-    requires { turn.length + length (parts_under asked t.now r.now) < 2 ^ 64 }
-    ensures { Under asked t.now r.now turn out.old out.new result }
+// Writes the marked parts where they are asked for.
+fn add_parts(t: &[u8], r: &[u8], asked: bool, page: &mut Page<'_>)
+    ensures { Adds (parts_under asked t.now r.now) page.old page.new }
 {
-    if !asked {
-        return turn;
-    }
-    let n = write_parts(t, r, out, turn.length);
-    Turn {
-        length: n,
-        cycles: turn.cycles,
-        ends: turn.ends,
+    if asked {
+        write_parts(t, r, page);
     }
 }
 
@@ -59,8 +54,14 @@ pub fn answer_line(
     let mut bytes = [0u8; MAX_LINE];
     let x = parse_line(line, &mut bytes);
     let n = estimate_length(x);
-    let turn = make_call(t, r, cycles, number, x, &bytes[..n], out);
-    add_parts(t, r, asked & is_call(x), turn, out)
+    let mut page = Page::new(out);
+    let after = make_call(t, r, cycles, number, x, &bytes[..n], &mut page);
+    add_parts(t, r, asked & is_call(x), &mut page);
+    Turn {
+        length: page.length,
+        cycles: after,
+        ends: ends_run(x),
+    }
 }
 
 // Writes the summary of a run, after its last line.
@@ -68,5 +69,7 @@ pub fn summarise(t: &[u8], r: &[u8], cycles: u64, out: &mut [u8]) -> usize
     ensures written { Written (summary_text t.now r.now cycles) out.old 0 out.new result }
     ensures upper_bound { result ≤ max_summary }
 {
-    write_summary(t, r, cycles, out, 0)
+    let mut page = Page::new(out);
+    write_summary(t, r, cycles, &mut page);
+    page.length
 }

@@ -21,12 +21,8 @@ pub(crate) fn estimate_length(x: Line) -> usize
     ensures { result ≡ estimate_length x }
 {
     match x {
-        Line::Passed => 0,
-        Line::Begin(n) => n,
-        Line::Offer(_) => 0,
-        Line::OfferInto(_, _) => 0,
-        Line::Settle(n) => n,
-        Line::NotACall => 0,
+        Line::Begin(n) | Line::Settle(n) => n,
+        Line::Passed | Line::Offer(_) | Line::OfferInto(_, _) | Line::NotACall => 0,
     }
 }
 
@@ -34,12 +30,5 @@ pub(crate) fn estimate_length(x: Line) -> usize
 pub(crate) fn is_call(x: Line) -> bool
     ensures { result ≡ is_call x }
 {
-    match x {
-        Line::Passed => false,
-        Line::Begin(_) => true,
-        Line::Offer(_) => true,
-        Line::OfferInto(_, _) => true,
-        Line::Settle(_) => true,
-        Line::NotACall => false,
-    }
+    !matches!(x, Line::Passed | Line::NotACall)
 }

@@ -1,5 +1,5 @@
 -- Laws of the words: which a refusal gets, how those of several pieces are written, and that each line fits its buffer.
-use Prim.Native.Nat.{ℕ, ◌+◌, ◌<◌, ◌≤◌, ◌^◌}
+use Prim.Native.Nat.{ℕ, ◌<◌, ◌≤◌}
 use native.Mathlib.Omega.{arith}
 use mathlib.Core.Path.{◌≡◌, refl}
 use mathlib.Core.List.{List}
@@ -12,9 +12,8 @@ use Rattle.meaning.specs.Answers.{refusal_number, size_out_of_range, operand_not
 use Rattle.text_grammar.specs.Texts.{max_text_length}
 use Rattle.desk_format.specs.Decimal.{decimal}
 use Rattle.desk_format.specs.Words.{word}
-use Rattle.desk_format.specs.Writing.{Written}
 use Rattle.desk_format.proofs.Digits.{decimal_few}
-use Rattle.desk_format.proofs.Texts.{Three, three_length, three_written, same_text}
+use Rattle.desk_format.proofs.Texts.{Three, three_length}
 use Rattle.desk_answers.specs.Answers.{refused_text}
 use Rattle.desk_answers.proofs.Lengths.{either_fits, refused_short}
 use Rattle.desk_texts.specs.Places.{line_of, column_of}
@@ -34,19 +33,6 @@ outside_pieces t place = record { made = refl }
 
 column_fits : (column : ℕ) → length (column_text column) ≤ 33
 column_fits column = omega (arith, three_length (column_pieces column), decimal_few column)
-
--- "from line L, column C on", piece by piece
-module _ {l m : List ℕ} {i : ℕ} (first : Written from_line l 0 m i) where
-  pub line_room : (line : ℕ) → i + length (decimal line) < 2 ^ 64
-  line_room line = omega (arith, first.after, decimal_few line)
-
-  module _ {n : List ℕ} {k : ℕ} (line : ℕ) (second : Written (decimal line) m i n k) where
-    pub column_room : (column : ℕ) → k + length (column_text column) < 2 ^ 64
-    column_room column = omega (arith, first.after, second.after, decimal_few line, column_fits column)
-
-    pub outside_written : {o : List ℕ} {e : ℕ} (column : ℕ) (t : List ℕ) (place : ℕ) → line ≡ line_of t place → column ≡ column_of t place → Written (column_text column) n k o e
-        → Written (outside_text t place) l 0 o e
-    outside_written column t place line_is column-is third = three_written (outside_pieces t place) first (rw line_is at second) (rw column-is at third)
 
 -- A text that is too long, and one that does not fit
 pub too_long_lem : (t : List ℕ) (place : ℕ) → max_text_length < length t → not_a_text_text t place ≡ word "refused 16: the text has more than 16384 bytes\n"
@@ -73,17 +59,9 @@ words_fit n t place =
     (either_fits (eqb n too_deep) _ _ max_words (omega arith)
     (either_fits (eqb n not_a_text) _ _ max_words (not_a_text_fits t place) (omega (arith, refused_short n)))))
 
--- The line of a refusal that has been told apart
-pub said : {l m text : List ℕ} {e : ℕ} {why known : Refusal} (t : List ℕ) (place : ℕ) → why ≡ known → refusal_text (refusal_number known) t place ≡ text → Written text l 0 m e
-    → Written (refusal_text (refusal_number why) t place) l 0 m e × (e ≤ max_words)
-said {text = text} {why = why} t place told is written =
-    let text_is : refusal_text (refusal_number why) t place ≡ text = rw told is in
-    let whole = same_text text_is written in
-    (whole, omega (arith, whole.after, words_fit (refusal_number why) t place))
-
--- and of one of the others
+-- The line of a refusal that has no words of its own
 module _ (t : List ℕ) (place : ℕ) (why : Refusal) (size : why ≡ SizeOutOfRange → ⊥) (operand : why ≡ OperandNotAllowed → ⊥) (deep : why ≡ TooDeep → ⊥) (text : why ≡ NotAText → ⊥) where
-  without_words : (r : Refusal) → why ≡ r → refusal_text (refusal_number r) t place ≡ refused_text (refusal_number r)
+  pub without_words : (r : Refusal) → why ≡ r → refusal_text (refusal_number r) t place ≡ refused_text (refusal_number r)
   unfolding refusal_text
   without_words FileTooShort is = refl
   without_words SizeOutOfRange is = absurd (size is)
@@ -101,13 +79,3 @@ module _ (t : List ℕ) (place : ℕ) (why : Refusal) (size : why ≡ SizeOutOfR
   without_words RunFinished is = refl
   without_words NothingAtWork is = refl
   without_words NotAText is = absurd (text is)
-
-  pub other_said : {l m : List ℕ} {e : ℕ} → Written (refused_text (refusal_number why)) l 0 m e → Written (refusal_text (refusal_number why) t place) l 0 m e
-  other_said written = same_text (without_words why refl) written
-
--- each line fits its buffer
-pub said_fits : {l m : List ℕ} {e : ℕ} (n : ℕ) (t : List ℕ) (place : ℕ) → Written (refusal_text n t place) l 0 m e → e ≤ max_words
-said_fits n t place written = omega (arith, written.after, words_fit n t place)
-
-pub refused_room : (n : ℕ) → 0 + length (refused_text n) < 2 ^ 64
-refused_room n = omega (arith, refused_short n)

@@ -14,10 +14,15 @@ use Rattle.base.specs.Lists.{all, nonempty, same}
 use Rattle.base.proofs.Lists.{and_left, and_right, all_append, same_eq, none_fails, each_tabulated, each_passes}
 use Rattle.meaning.specs.declared.Form.TheVariants.{File}
 use Rattle.meaning.specs.Sizes.{header_length, length_of}
-use Rattle.meaning.specs.Kinds.{UNKNOWN, kinds, kind_of, known}
+use Rattle.meaning.specs.declared.kinds.Kind.TheVariants.{Unknown as UNKNOWN}
+use Rattle.meaning.specs.Kinds.{kinds, kind_of, known}
 use Rattle.meaning.specs.Program.{parts, sizes_allowed, entry_at, entries, entry_known, program_tests, program_refusal}
 use Rattle.text_grammar.specs.Characters.{is_blank, is_digit}
-use Rattle.text_grammar.specs.Tokens.{Mark, start_word, wait_word, maintain_word, repeat_word, if_word, then_word, else_word, equal_sign, differs_sign, at_least_sign, below_sign, semicolon, comma, opening, closing, colon, Token, variable, clock, unknown, spelling, marks, is_number, numbered, named_token, token_among, token_of, is_known, Spelled, ends, token}
+use Rattle.text_grammar.specs.declared.tokens.Mark.{Mark}
+use Rattle.text_grammar.specs.declared.tokens.Mark.TheVariants.{StartWord as start_word, WaitWord as wait_word, MaintainWord as maintain_word, RepeatWord as repeat_word, IfWord as if_word, ThenWord as then_word, ElseWord as else_word, EqualSign as equal_sign, DiffersSign as differs_sign, AtLeastSign as at_least_sign, BelowSign as below_sign, Semicolon as semicolon, Comma as comma, Opening as opening, Closing as closing, Colon as colon}
+use Rattle.text_grammar.specs.declared.tokens.Token.{Token}
+use Rattle.text_grammar.specs.declared.tokens.Token.TheVariants.{Variable as variable, Clock as clock, Unknown as unknown}
+use Rattle.text_grammar.specs.Tokens.{spelling, marks, is_number, numbered, named_token, token_among, token_of, is_known, Spelled, ends, token}
 use Rattle.text_grammar.specs.Syntax.{Text, write_text}
 use Rattle.text_grammar.specs.Texts.{Fits}
 use Rattle.desk_texts.specs.Forms.{least_byte, telling, is_text}

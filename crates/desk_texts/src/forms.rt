@@ -12,15 +12,6 @@ const TELLING: usize = 4;
 pub fn is_text(input: &[u8]) -> bool
     ensures { result ≡ is_text input.now }
 {
-    let n = if input.len() < TELLING {
-        input.len()
-    } else {
-        TELLING
-    };
-    for i in 0..n {
-        if input[i] < LEAST_BYTE {
-            return false;
-        }
-    }
-    n != 0
+    let front = &input[..input.len().min(TELLING)];
+    !front.is_empty() && front.iter().all(|b| LEAST_BYTE <= *b)
 }

@@ -13,8 +13,8 @@ pub fn line_of(text: &[u8], place: usize) -> usize
     ensures { result ≡ line_of text.now place }
 {
     let mut line = 1;
-    for i in 0..place {
-        if text[i] == LINE_END {
+    for b in &text[..place] {
+        if *b == LINE_END {
             line += 1;
         }
     }
@@ -28,8 +28,8 @@ pub fn column_of(text: &[u8], place: usize) -> usize
     ensures { result ≡ column_of text.now place }
 {
     let mut column = 1;
-    for i in 0..place {
-        if text[i] == LINE_END {
+    for b in &text[..place] {
+        if *b == LINE_END {
             column = 1;
         } else {
             column += 1;

@@ -50,15 +50,6 @@ module _ (t r : List ℕ) (c : ℕ) (here : c < clocks t) {b : Bool} (b-is : b �
   unfolding start_text
   start_one s h = rw (flag_is, h, get_or-tabulate (λ c. time_at r (starts_place + time_width * c)) 0 (clocks t) c 0 here, zero-add, s)
 
--- The clocks, clock by clock
-module _ (t r l : List ℕ) (i e : ℕ) where
-  pub clocks_first : e ≡ clocks t → Writing (clocks_text t r) l i (texts_from (clock_text t r) 0 (e - 0)) l i
-  unfolding clocks_text
-  clocks_first h = rw (← h) (texts_first (clock_text t r) l i e)
-
-  pub clocks_room : (m : List ℕ) (j c : ℕ) → c < e → Writing (clocks_text t r) l i (texts_from (clock_text t r) c (e - c)) m j → i + length (clocks_text t r) < 2 ^ 64 → j + length (clock_text t r c) < 2 ^ 64
-  clocks_room m j c h w room = texts_room (clock_text t r) (clocks_text t r) l m i j c e h w room
-
 -- The finishing cycle, by the phase
 pub finishing_one : (r : List ℕ) (cycles : ℕ) {phase : ℕ} → phase ≡ phase_of r → phase ≡ finished → finishing_text r cycles ≡ numbered (word "finishing cycle ") cycles
 unfolding finishing_text

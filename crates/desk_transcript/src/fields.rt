@@ -3,7 +3,7 @@ ghost use Rattle.std.specs.Prelude.{◌≡◌, ◌+◌, ◌*◌, ◌<◌, get_or
 ghost use Rattle.meaning.specs.Sizes.{time_width};
 ghost use Rattle.meaning.specs.Record.{started_place, starts_place, marks_place, time_at, last_time, is_mark};
 
-use base::{at, wide};
+use base::at;
 use meaning::sizes::{MARKS_PLACE, STARTED_PLACE, STARTS_PLACE, TIME, TIME_PLACE, UNMARKED};
 use meaning::{Number, index};
 use run_record::fields::time_of;
@@ -26,13 +26,13 @@ pub(crate) fn last_time(r: &[u8]) -> u32
 pub(crate) fn is_started(r: &[u8], c: u8) -> bool
     ensures { result ≡ is_mark (get_or r.now (started_place + c) 0) }
 {
-    at(r, STARTED_PLACE + wide(c)) != 0
+    at(r, STARTED_PLACE + usize::from(c)) != 0
 }
 
 pub(crate) fn start_of(r: &[u8], c: u8) -> u32
     ensures { result ≡ time_at r.now (starts_place + time_width * c) }
 {
-    time_at(r, STARTS_PLACE + TIME * wide(c))
+    time_at(r, STARTS_PLACE + TIME * usize::from(c))
 }
 
 // Whether part p is marked.

@@ -7,16 +7,13 @@ use native.Mathlib.Omega.{arith}
 use lib.Dec.{eqb, leb}
 use lib.ListN.{get_or}
 use borrow.Author.Tests.{ltb-true, leb-false, eqb-true, eqb-false, ne_eqb}
+use Rattle.std.specs.Prelude.{Option, None, Some, Result, Ok, Err}
 use Rattle.base.specs.Lists.{all, first_failing}
 use Rattle.base.proofs.Lists.{fails_append}
 use Rattle.meaning.specs.declared.Refusal.{Refusal}
 use Rattle.meaning.specs.declared.Refusal.TheVariants.{FileTooShort, SizeOutOfRange, WrongLength, UnknownKind, OperandNotAllowed, NotOneTree, TooDeep, BufferTooShort, NotATable, RecordNotAllowed, WrongPhase, TimeBeforeLast, EstimateNotAllowed, RunFinished, NothingAtWork, NotAText}
-use Rattle.meaning.specs.declared.Answer.{Answer}
-use Rattle.meaning.specs.declared.Answer.TheVariants.{Done, Refused}
-use Rattle.meaning.specs.declared.OfferAnswer.{OfferAnswer}
-use Rattle.meaning.specs.declared.OfferAnswer.TheVariants.{Agreed, Contested, Refused as OfferRefused}
-use Rattle.meaning.specs.declared.SettleAnswer.{SettleAnswer}
-use Rattle.meaning.specs.declared.SettleAnswer.TheVariants.{Running, Finished, Refused as SettleRefused}
+use Rattle.meaning.specs.declared.Progress.{Progress}
+use Rattle.meaning.specs.declared.Progress.TheVariants.{Running, Finished}
 use Rattle.meaning.specs.Sizes.{max_variables}
 use Rattle.meaning.specs.Answers.{refusal_number, answer_number, answered, answering, offer_number, one_case, settle_number}
 
@@ -88,39 +85,39 @@ refusal_back NotAText = refl
 pub refusal_number_one : (r s : Refusal) → refusal_number r ≡ refusal_number s → r ≡ s
 refusal_number_one r s e = sym (refusal_back r) ∙ ap refusal_of e ∙ refusal_back s
 
-pub answer_number_one : (a b : Answer) → answer_number a ≡ answer_number b → a ≡ b
-answer_number_one Done Done e = refl
-answer_number_one Done (Refused s) e = absurd (refusal_positive s (sym e))
-answer_number_one (Refused r) Done e = absurd (refusal_positive r e)
-answer_number_one (Refused r) (Refused s) e = ap Refused (refusal_number_one r s e)
+pub answer_number_one : (a b : Result (Unit {0}) Refusal) → answer_number a ≡ answer_number b → a ≡ b
+answer_number_one (Ok u) (Ok w) e = refl
+answer_number_one (Ok u) (Err s) e = absurd (refusal_positive s (sym e))
+answer_number_one (Err r) (Ok w) e = absurd (refusal_positive r e)
+answer_number_one (Err r) (Err s) e = ap Err (refusal_number_one r s e)
 
-pub offer_number_one : (a b : OfferAnswer) → one_case a ≡ true → one_case b ≡ true → offer_number a ≡ offer_number b → a ≡ b
-offer_number_one (OfferRefused r) (OfferRefused s) x y e = ap OfferRefused (refusal_number_one r s e)
-offer_number_one (OfferRefused r) Agreed x y e = absurd (omega (arith, refusal_counts r))
-offer_number_one (OfferRefused r) (Contested w) x y e = absurd (omega (arith, refusal_counts r))
-offer_number_one Agreed (OfferRefused s) x y e = absurd (omega (arith, refusal_counts s))
-offer_number_one Agreed Agreed x y e = refl
-offer_number_one Agreed (Contested w) x y e = absurd (omega (arith, ltb-true w max_variables y))
-offer_number_one (Contested v) (OfferRefused s) x y e = absurd (omega (arith, refusal_counts s))
-offer_number_one (Contested v) Agreed x y e = absurd (omega (arith, ltb-true v max_variables x))
-offer_number_one (Contested v) (Contested w) x y e = let same : v ≡ w = omega arith in ap Contested same
+pub offer_number_one : (a b : Result (Option ℕ) Refusal) → one_case a ≡ true → one_case b ≡ true → offer_number a ≡ offer_number b → a ≡ b
+offer_number_one (Err r) (Err s) x y e = ap Err (refusal_number_one r s e)
+offer_number_one (Err r) (Ok None) x y e = absurd (omega (arith, refusal_counts r))
+offer_number_one (Err r) (Ok (Some w)) x y e = absurd (omega (arith, refusal_counts r))
+offer_number_one (Ok None) (Err s) x y e = absurd (omega (arith, refusal_counts s))
+offer_number_one (Ok None) (Ok None) x y e = refl
+offer_number_one (Ok None) (Ok (Some w)) x y e = absurd (omega (arith, ltb-true w max_variables y))
+offer_number_one (Ok (Some v)) (Err s) x y e = absurd (omega (arith, refusal_counts s))
+offer_number_one (Ok (Some v)) (Ok None) x y e = absurd (omega (arith, ltb-true v max_variables x))
+offer_number_one (Ok (Some v)) (Ok (Some w)) x y e = let same : v ≡ w = omega arith in ap (λ n. Ok (Some n)) same
 
-pub settle_number_one : (a b : SettleAnswer) → settle_number a ≡ settle_number b → a ≡ b
-settle_number_one (SettleRefused r) (SettleRefused s) e = ap SettleRefused (refusal_number_one r s e)
-settle_number_one (SettleRefused r) Running e = absurd (omega (arith, refusal_counts r))
-settle_number_one (SettleRefused r) Finished e = absurd (omega (arith, refusal_counts r))
-settle_number_one Running (SettleRefused s) e = absurd (omega (arith, refusal_counts s))
-settle_number_one Running Running e = refl
-settle_number_one Running Finished e = absurd (omega arith)
-settle_number_one Finished (SettleRefused s) e = absurd (omega (arith, refusal_counts s))
-settle_number_one Finished Running e = absurd (omega arith)
-settle_number_one Finished Finished e = refl
+pub settle_number_one : (a b : Result Progress Refusal) → settle_number a ≡ settle_number b → a ≡ b
+settle_number_one (Err r) (Err s) e = ap Err (refusal_number_one r s e)
+settle_number_one (Err r) (Ok Running) e = absurd (omega (arith, refusal_counts r))
+settle_number_one (Err r) (Ok Finished) e = absurd (omega (arith, refusal_counts r))
+settle_number_one (Ok Running) (Err s) e = absurd (omega (arith, refusal_counts s))
+settle_number_one (Ok Running) (Ok Running) e = refl
+settle_number_one (Ok Running) (Ok Finished) e = absurd (omega arith)
+settle_number_one (Ok Finished) (Err s) e = absurd (omega (arith, refusal_counts s))
+settle_number_one (Ok Finished) (Ok Running) e = absurd (omega arith)
+settle_number_one (Ok Finished) (Ok Finished) e = refl
 
 -- what an answer says of the refusal that it names
-pub not_refused : (a : Answer) (n : ℕ) → answer_number a ≡ n → a ≡ Done → n ≡ 0
+pub not_refused : (a : Result (Unit {0}) Refusal) (n : ℕ) → answer_number a ≡ n → a ≡ Ok tt → n ≡ 0
 not_refused a n e d = sym e ∙ ap answer_number d
 
-pub is_refused : (a : Answer) (r : Refusal) (n : ℕ) → answer_number a ≡ n → a ≡ Refused r → n ≡ 0 → ⊥
+pub is_refused : (a : Result (Unit {0}) Refusal) (r : Refusal) (n : ℕ) → answer_number a ≡ n → a ≡ Err r → n ≡ 0 → ⊥
 is_refused a r n e d z = refusal_positive r (ap answer_number (sym d) ∙ e ∙ z)
 
 -- The number of an answer that gives something: refused, it is the refusal's; else 256 and what is given
@@ -140,9 +137,9 @@ module _ (n given answer : ℕ) (a : answer ≡ answering n given) where
       go false e = absurd (omega (arith, told_refusal (eqb-false n 0 e), leb-false answered n l))
 
 -- An answer decided by the first of two lists of tests: a refusal stays, and otherwise the second list decides
-module _ (xs ys : List (ℕ × Bool)) (numbered : all (λ t. leb 1 t.0) xs ≡ true) (a : Answer) (a-is : answer_number a ≡ first_failing xs) where
-  pub refused_before : (why : Refusal) → a ≡ Refused why → answer_number a ≡ first_failing (xs ++ ys)
+module _ (xs ys : List (ℕ × Bool)) (numbered : all (λ t. leb 1 t.0) xs ≡ true) (a : Result (Unit {0}) Refusal) (a-is : answer_number a ≡ first_failing xs) where
+  pub refused_before : (why : Refusal) → a ≡ Err why → answer_number a ≡ first_failing (xs ++ ys)
   refused_before why told = a-is ∙ sym (fails_append xs ys numbered ∙ rw (ne_eqb (first_failing xs) 0 (is_refused a why (first_failing xs) a-is told)))
 
-  pub left_open : a ≡ Done → first_failing (xs ++ ys) ≡ first_failing ys
+  pub left_open : a ≡ Ok tt → first_failing (xs ++ ys) ≡ first_failing ys
   left_open told = fails_append xs ys numbered ∙ rw (not_refused a (first_failing xs) a-is told)

@@ -14,7 +14,7 @@ use Rattle.base.proofs.Facts.{at_most, all_facts}
 use Rattle.base.proofs.Lists.{cond_same, length-tabulate, get_or-tabulate}
 use Rattle.meaning.specs.declared.Entry.{Entry}
 use Rattle.meaning.specs.declared.Form.TheVariants.{Table}
-use Rattle.meaning.specs.Kinds.{GOAL, START, WAIT}
+use Rattle.meaning.specs.declared.kinds.Kind.TheVariants.{Goal as GOAL, Start as START, Wait as WAIT}
 use Rattle.meaning.specs.Program.{entry_at}
 use Rattle.meaning.specs.Table.{operand_of}
 use Rattle.meaning.specs.Record.{is_mark, started_flag, clock_allowed}

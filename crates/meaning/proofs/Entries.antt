@@ -15,7 +15,8 @@ use Rattle.meaning.specs.declared.Operand.{Operand}
 use Rattle.meaning.specs.declared.Entry.{Entry}
 use Rattle.meaning.specs.declared.Form.TheVariants.{Table}
 use Rattle.meaning.specs.Sizes.{max_value, unknown_value}
-use Rattle.meaning.specs.Kinds.{GOAL, START, kind_of, number_of, value, test_of, test_allowed, condition_allowed, goal_allowed, start_allowed, operand_allowed}
+use Rattle.meaning.specs.declared.kinds.Kind.TheVariants.{Goal as GOAL, Start as START}
+use Rattle.meaning.specs.Kinds.{kind_of, number_of, value, test_of, test_allowed, condition_allowed, goal_allowed, start_allowed, operand_allowed}
 use Rattle.meaning.specs.Program.{parts, variables, clocks, entry_at, entries, entry_allowed}
 use Rattle.meaning.specs.Table.{is_table}
 use Rattle.meaning.specs.Conditions.{Situation, estimate_of, reached}

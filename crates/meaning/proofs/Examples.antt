@@ -3,11 +3,10 @@ use Prim.Native.Nat.{ℕ}
 use mathlib.Core.Path.{◌≡◌, refl}
 use mathlib.Core.List.{List, [], ◌∷◌, ◌++◌}
 use lib.ListN.{take, set, replicate}
+use Rattle.std.specs.Prelude.{None, Some, Ok}
 use Rattle.meaning.specs.declared.Form.TheVariants.{File}
 use Rattle.meaning.specs.declared.Refusal.TheVariants.{FileTooShort, SizeOutOfRange, WrongLength, UnknownKind, OperandNotAllowed, NotOneTree, TooDeep, BufferTooShort, NotATable, RecordNotAllowed, WrongPhase, TimeBeforeLast, EstimateNotAllowed, RunFinished, NothingAtWork, NotAText}
-use Rattle.meaning.specs.declared.Answer.TheVariants.{Done}
-use Rattle.meaning.specs.declared.OfferAnswer.TheVariants.{Agreed, Contested}
-use Rattle.meaning.specs.declared.SettleAnswer.TheVariants.{Running, Finished}
+use Rattle.meaning.specs.declared.Progress.TheVariants.{Running, Finished}
 use Rattle.meaning.specs.Answers.{refusal_number, answer_number, offer_number, settle_number}
 use Rattle.meaning.specs.Table.{compiled}
 use Rattle.meaning.specs.Cycle.{begun_into, offered_into, settled_into}
@@ -65,12 +64,12 @@ pub answer_numbers : Holds
     ∷ refusal_number RunFinished gets 14
     ∷ refusal_number NothingAtWork gets 15
     ∷ refusal_number NotAText gets 16
-    ∷ answer_number Done gets 0
-    ∷ offer_number (Contested 0) gets 256
-    ∷ offer_number (Contested 31) gets 287
-    ∷ offer_number Agreed gets 511
-    ∷ settle_number Running gets 256
-    ∷ settle_number Finished gets 257
+    ∷ answer_number (Ok tt) gets 0
+    ∷ offer_number (Ok (Some 0)) gets 256
+    ∷ offer_number (Ok (Some 31)) gets 287
+    ∷ offer_number (Ok None) gets 511
+    ∷ settle_number (Ok Running) gets 256
+    ∷ settle_number (Ok Finished) gets 257
     ∷ [])
 answer_numbers = refl
 

@@ -8,7 +8,8 @@ use lib.ListN.{length, get_or}
 use Rattle.base.specs.Lists.{nonempty}
 use Rattle.meaning.specs.declared.Form.TheVariants.{Table}
 use Rattle.meaning.specs.Sizes.{max_parts, no_part}
-use Rattle.meaning.specs.Kinds.{Kind, kind_of, number_of}
+use Rattle.meaning.specs.declared.kinds.Kind.{Kind}
+use Rattle.meaning.specs.Kinds.{kind_of, number_of}
 use Rattle.meaning.specs.Tree.{Part, kind, children, operand, size}
 use Rattle.meaning.specs.Program.{entry_at, size_bytes, Within}
 use Rattle.meaning.specs.Table.{Row, next_of, siblings, block, table_of, end_at, parent_at, next_at, kind_at, inside_of}

@@ -11,7 +11,7 @@ use lib.ListN.{length, get_or-eq_default}
 use borrow.Author.Tests.{ltb-true, ltb-false}
 use Rattle.base.specs.Lists.{sum}
 use Rattle.meaning.specs.Sizes.{no_part, header_length, row_length}
-use Rattle.meaning.specs.Kinds.{Kind}
+use Rattle.meaning.specs.declared.kinds.Kind.{Kind}
 use Rattle.meaning.specs.Tree.{Part, children, size}
 use Rattle.meaning.specs.Program.{parts, variables, clocks}
 use Rattle.meaning.specs.Table.{end_at, parent_at, next_at, Inside, inside_of, is_table}

@@ -13,7 +13,9 @@ use Rattle.base.specs.Lists.{flat, all}
 use Rattle.base.proofs.Lists.{and_left, and_right, flat_append}
 use Rattle.meaning.specs.declared.Operand.{Operand}
 use Rattle.meaning.specs.declared.Entry.{Entry}
-use Rattle.meaning.specs.Kinds.{Kind, UNKNOWN, GOAL, START, WAIT, SEQ, PAR, MAINTAIN, CHOICE, REPEAT, kind_of, number_of, known, arity, value, count_allowed, empty_allowed, operand_allowed}
+use Rattle.meaning.specs.declared.kinds.Kind.{Kind}
+use Rattle.meaning.specs.declared.kinds.Kind.TheVariants.{Unknown as UNKNOWN, Goal as GOAL, Start as START, Wait as WAIT, Seq as SEQ, Par as PAR, Maintain as MAINTAIN, Choice as CHOICE, Repeat as REPEAT}
+use Rattle.meaning.specs.Kinds.{kind_of, number_of, known, arity, value, count_allowed, empty_allowed, operand_allowed}
 use Rattle.meaning.specs.Tree.{Part, Parts, goal, start, wait, seq, par, maintain, choice, repeat, one, more, list_of, count_operand, count, kind, children, operand}
 use Rattle.meaning.specs.Program.{preorder, entry_known, entry_allowed, arity_of, group, of_some, make_part, take_children, follow, trees}
 use Rattle.meaning.proofs.Trees.{All, part_ind, entry_of, preorder_law}

@@ -17,7 +17,9 @@ use Rattle.meaning.specs.declared.Entry.{Entry}
 use Rattle.meaning.specs.declared.Form.{Form}
 use Rattle.meaning.specs.declared.Form.TheVariants.{File, Table}
 use Rattle.meaning.specs.Sizes.{number_width, no_part, header_length, links_length, row_length, operand_place, number_at}
-use Rattle.meaning.specs.Kinds.{Kind, UNKNOWN, GOAL, START, WAIT, SEQ, PAR, MAINTAIN, CHOICE, REPEAT, kind_of, number_of}
+use Rattle.meaning.specs.declared.kinds.Kind.{Kind}
+use Rattle.meaning.specs.declared.kinds.Kind.TheVariants.{Unknown as UNKNOWN, Goal as GOAL, Start as START, Wait as WAIT, Seq as SEQ, Par as PAR, Maintain as MAINTAIN, Choice as CHOICE, Repeat as REPEAT}
+use Rattle.meaning.specs.Kinds.{kind_of, number_of}
 use Rattle.meaning.specs.Tree.{Part, goal, start, wait, seq, par, maintain, choice, repeat, kind, children, operand, size, count_operand}
 use Rattle.meaning.specs.Program.{parts, variables, clocks, size_bytes, entry_at, entries, preorder, tree_of, program_refusal, Within, file_of}
 use Rattle.meaning.specs.Table.{Row, row_bytes, next_of, siblings, block, table_of, compiled, end_at, parent_at, next_at, kind_at, file_in, is_table}

@@ -8,7 +8,8 @@ use Rattle.base.specs.Lists.{sum, largest, concat, flat}
 use Rattle.base.proofs.Lists.{length-flat}
 use Rattle.meaning.specs.declared.Operand.{Operand}
 use Rattle.meaning.specs.declared.Entry.{Entry}
-use Rattle.meaning.specs.Kinds.{Kind, number_of}
+use Rattle.meaning.specs.declared.kinds.Kind.{Kind}
+use Rattle.meaning.specs.Kinds.{number_of}
 use Rattle.meaning.specs.Tree.{Part, Parts, goal, start, wait, seq, par, maintain, choice, repeat, one, more, list_of, kind, children, operand, fold, fold_all, size, depth}
 use Rattle.meaning.specs.Program.{preorder}
 use Rattle.meaning.specs.Table.{block_parts, block_of, siblings, block}

@@ -1,13 +1,9 @@
 -- Refusal by refusal: the number that document 01 gives each answer.
-use Rattle.std.specs.Prelude.{ℕ, ◌+◌, Bool, true, cond, eqb, ltb}
+use Rattle.std.specs.Prelude.{ℕ, ◌+◌, Bool, true, cond, Option, None, Some, Result, Ok, Err, eqb, ltb}
 use Rattle.meaning.specs.declared.Refusal.{Refusal}
 use Rattle.meaning.specs.declared.Refusal.TheVariants.{FileTooShort, SizeOutOfRange, WrongLength, UnknownKind, OperandNotAllowed, NotOneTree, TooDeep, BufferTooShort, NotATable, RecordNotAllowed, WrongPhase, TimeBeforeLast, EstimateNotAllowed, RunFinished, NothingAtWork, NotAText}
-use Rattle.meaning.specs.declared.Answer.{Answer}
-use Rattle.meaning.specs.declared.Answer.TheVariants.{Done, Refused}
-use Rattle.meaning.specs.declared.OfferAnswer.{OfferAnswer}
-use Rattle.meaning.specs.declared.OfferAnswer.TheVariants.{Agreed, Contested, Refused as OfferRefused}
-use Rattle.meaning.specs.declared.SettleAnswer.{SettleAnswer}
-use Rattle.meaning.specs.declared.SettleAnswer.TheVariants.{Running, Finished, Refused as SettleRefused}
+use Rattle.meaning.specs.declared.Progress.{Progress}
+use Rattle.meaning.specs.declared.Progress.TheVariants.{Running, Finished}
 use Rattle.meaning.specs.Sizes.{max_variables}
 
 -- "Refusal by refusal": each has here the name that the code's `Refusal` and the header give it
@@ -93,9 +89,10 @@ refusal_number RunFinished = run_finished
 refusal_number NothingAtWork = nothing_at_work
 refusal_number NotAText = not_a_text
 
-abbrev pub answer_number : Answer → ℕ
-answer_number Done = 0
-answer_number (Refused r) = refusal_number r
+-- the number of what a call answers: 0 where it is accepted and gives nothing, and else the refusal's
+abbrev pub answer_number : Result (Unit {0}) Refusal → ℕ
+answer_number (Ok given) = 0
+answer_number (Err r) = refusal_number r
 
 -- Numbers from here on are answers that are no refusal: of an offer 256 and the lowest contested variable, 255 for none;
 -- of a settling 256 for "running" and 257 for "finished"
@@ -110,18 +107,20 @@ answering refusal given = cond (eqb refusal 0) (answered + given) refusal
 abbrev pub no_variable : ℕ
 no_variable = 255
 
-abbrev pub offer_number : OfferAnswer → ℕ
-offer_number (OfferRefused r) = refusal_number r
-offer_number Agreed = answered + no_variable
-offer_number (Contested v) = answered + v
+-- what an offer gives is the lowest contested variable, if any is
+abbrev pub offer_number : Result (Option ℕ) Refusal → ℕ
+offer_number (Ok None) = answered + no_variable
+offer_number (Ok (Some v)) = answered + v
+offer_number (Err r) = refusal_number r
 
--- the answers that an offer gives: `Contested` only with a variable's number, so that no number is that of two of them
-abbrev pub one_case : OfferAnswer → Bool
-one_case (OfferRefused r) = true
-one_case Agreed = true
-one_case (Contested v) = ltb v max_variables
+-- the answers that an offer gives: it names a variable's number alone, so that no number is that of two of them
+abbrev pub one_case : Result (Option ℕ) Refusal → Bool
+one_case (Ok None) = true
+one_case (Ok (Some v)) = ltb v max_variables
+one_case (Err r) = true
 
-abbrev pub settle_number : SettleAnswer → ℕ
-settle_number (SettleRefused r) = refusal_number r
-settle_number Running = answered
-settle_number Finished = answered + 1
+-- what a settling gives is whether the run goes on
+abbrev pub settle_number : Result Progress Refusal → ℕ
+settle_number (Ok Running) = answered
+settle_number (Ok Finished) = answered + 1
+settle_number (Err r) = refusal_number r

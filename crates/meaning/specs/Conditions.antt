@@ -4,7 +4,9 @@ use Rattle.meaning.specs.declared.Operand.{Operand}
 use Rattle.meaning.specs.declared.Outcome.{Outcome}
 use Rattle.meaning.specs.declared.Outcome.TheVariants.{Satisfied, Violated, Open}
 use Rattle.meaning.specs.Sizes.{unknown_value}
-use Rattle.meaning.specs.Kinds.{Test, UNTESTED, EQUALS, DIFFERS, AT-LEAST, BELOW, test_of, value}
+use Rattle.meaning.specs.declared.kinds.Test.{Test}
+use Rattle.meaning.specs.declared.kinds.Test.TheVariants.{Untested as UNTESTED, Equals as EQUALS, Differs as DIFFERS, AtLeast as AT-LEAST, Below as BELOW}
+use Rattle.meaning.specs.Kinds.{test_of, value}
 
 -- What conditions are judged by: the estimate, each clock's started flag and start, and the cycle's time
 pub record Situation : Type 0 where

@@ -8,7 +8,9 @@ use Rattle.meaning.specs.declared.Form.TheVariants.{Table}
 use Rattle.meaning.specs.declared.Transition.{Transition}
 use Rattle.meaning.specs.declared.Transition.TheVariants.{Stays, Ends, First, Second}
 use Rattle.meaning.specs.Sizes.{time_width, no_part, little_endian}
-use Rattle.meaning.specs.Kinds.{Kind, UNKNOWN, GOAL, START, WAIT, SEQ, PAR, MAINTAIN, CHOICE, REPEAT, number_of, value}
+use Rattle.meaning.specs.declared.kinds.Kind.{Kind}
+use Rattle.meaning.specs.declared.kinds.Kind.TheVariants.{Unknown as UNKNOWN, Goal as GOAL, Start as START, Wait as WAIT, Seq as SEQ, Par as PAR, Maintain as MAINTAIN, Choice as CHOICE, Repeat as REPEAT}
+use Rattle.meaning.specs.Kinds.{number_of, value}
 use Rattle.meaning.specs.Program.{variables, clocks, entry_at}
 use Rattle.meaning.specs.Table.{kind_at, operand_of, end_at, parent_at, next_at, inside_of, is_table}
 use Rattle.meaning.specs.Conditions.{Situation, reached, satisfied, violated}

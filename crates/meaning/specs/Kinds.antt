@@ -1,10 +1,11 @@
 -- Kinds of parts, their operands and their conditions, in the order of document 01's table.
 use Rattle.std.specs.Prelude.{ℕ, ◌+◌, ◌*◌, Bool, true, false, not, ◌&&◌, List, [], ◌∷◌, eqb, leb, ltb, get_or}
 use Rattle.meaning.specs.declared.Operand.{Operand}
+use Rattle.meaning.specs.declared.kinds.Kind.{Kind}
+use Rattle.meaning.specs.declared.kinds.Kind.TheVariants.{Unknown as UNKNOWN, Goal as GOAL, Start as START, Wait as WAIT, Seq as SEQ, Par as PAR, Maintain as MAINTAIN, Choice as CHOICE, Repeat as REPEAT}
+use Rattle.meaning.specs.declared.kinds.Test.{Test}
+use Rattle.meaning.specs.declared.kinds.Test.TheVariants.{Untested as UNTESTED, Equals as EQUALS, Differs as DIFFERS, AtLeast as AT-LEAST, Below as BELOW}
 use Rattle.meaning.specs.Sizes.{byte_values, max_value}
-
-pub data Kind : Type 0 where
-  UNKNOWN GOAL START WAIT SEQ PAR MAINTAIN CHOICE REPEAT : Kind
 
 -- A kind byte stands for a kind by its place in this list, and for none beyond it
 abbrev pub kinds : List Kind
@@ -52,14 +53,19 @@ arity CHOICE o = 2
 arity REPEAT o = 1
 
 -- A condition is an operand: b0 says which test, b1 the variable or clock, and the value the number that it is tested against
-pub data Test : Type 0 where
-  UNTESTED EQUALS DIFFERS AT-LEAST BELOW : Test
-
 abbrev pub tests : List Test
 tests = UNTESTED ∷ EQUALS ∷ DIFFERS ∷ AT-LEAST ∷ BELOW ∷ []
 
 unfoldable pub test_of : ℕ → Test
 test_of b = get_or tests b UNTESTED
+
+-- The number of a test: "1 (variable equals value), 2 (differs), 3 (clock reads at least value) or 4 (reads below value)"
+unfoldable pub test_number : Test → ℕ
+test_number UNTESTED = 0
+test_number EQUALS = 1
+test_number DIFFERS = 2
+test_number AT-LEAST = 3
+test_number BELOW = 4
 
 -- "Variables are below V, clocks below K"; a value for tests 1 and 2 is at most 250, for tests 3 and 4 any
 unfoldable pub test_allowed : ℕ → ℕ → Test → Operand → Bool

@@ -6,7 +6,9 @@ use Rattle.meaning.specs.declared.Operand.{Operand}
 use Rattle.meaning.specs.declared.Entry.{Entry}
 use Rattle.meaning.specs.declared.Form.{Form}
 use Rattle.meaning.specs.Sizes.{max_parts, max_variables, max_clocks, max_depth, number_width, header_length, length_of, kind_place, operand_place, number_bytes, number_at}
-use Rattle.meaning.specs.Kinds.{Kind, UNKNOWN, GOAL, START, WAIT, SEQ, PAR, MAINTAIN, CHOICE, REPEAT, kind_of, number_of, known, arity, operand_allowed}
+use Rattle.meaning.specs.declared.kinds.Kind.{Kind}
+use Rattle.meaning.specs.declared.kinds.Kind.TheVariants.{Unknown as UNKNOWN, Goal as GOAL, Start as START, Wait as WAIT, Seq as SEQ, Par as PAR, Maintain as MAINTAIN, Choice as CHOICE, Repeat as REPEAT}
+use Rattle.meaning.specs.Kinds.{kind_of, number_of, known, arity, operand_allowed}
 use Rattle.meaning.specs.Tree.{Part, Parts, goal, start, wait, seq, par, maintain, choice, repeat, one, more, fold, depth, size}
 use Rattle.meaning.specs.Answers.{file_too_short, size_out_of_range, wrong_length, unknown_kind, operand_not_allowed, not_one_tree, too_deep}
 

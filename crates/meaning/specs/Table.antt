@@ -7,7 +7,9 @@ use Rattle.meaning.specs.declared.Operand.{Operand}
 use Rattle.meaning.specs.declared.Form.{Form}
 use Rattle.meaning.specs.declared.Form.TheVariants.{File, Table}
 use Rattle.meaning.specs.Sizes.{no_part, header_length, end_place, parent_place, next_place, row_length, length_of, number_bytes, bytes_at, number_at}
-use Rattle.meaning.specs.Kinds.{Kind, UNKNOWN, GOAL, START, WAIT, SEQ, PAR, MAINTAIN, CHOICE, REPEAT, kind_of, number_of}
+use Rattle.meaning.specs.declared.kinds.Kind.{Kind}
+use Rattle.meaning.specs.declared.kinds.Kind.TheVariants.{Unknown as UNKNOWN, Goal as GOAL, Start as START, Wait as WAIT, Seq as SEQ, Par as PAR, Maintain as MAINTAIN, Choice as CHOICE, Repeat as REPEAT}
+use Rattle.meaning.specs.Kinds.{kind_of, number_of}
 use Rattle.meaning.specs.Tree.{Part, fold, size}
 use Rattle.meaning.specs.Program.{parts, variables, clocks, size_bytes, operand_bytes, entry_at, entries, arrays, tree_of, program_tests, program_refusal}
 use Rattle.meaning.specs.Answers.{buffer_too_short, not_a_table}

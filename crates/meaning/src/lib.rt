@@ -21,14 +21,14 @@ pub fn index(p: Number) -> usize
 }
 
 // Where a program is held: in a program file or in a location table.
-#[derive(Clone, Copy)]
+#[derive(Clone, Copy, PartialEq, Eq)]
 pub enum Form {
     File,
     Table,
 }
 
 // An operand of 4 bytes: b0, b1, and b2 and b3 as one 16-bit value.
-#[derive(Clone, Copy)]
+#[derive(Clone, Copy, PartialEq, Eq)]
 pub struct Operand {
     pub b0: u8,
     pub b1: u8,
@@ -37,7 +37,7 @@ pub struct Operand {
 }
 
 // What a program holds of one part: its kind byte and its operand.
-#[derive(Clone, Copy)]
+#[derive(Clone, Copy, PartialEq, Eq)]
 pub struct Entry {
     pub kind: u8,
     pub operand: Operand,
@@ -45,7 +45,7 @@ pub struct Entry {
 
 // What a condition comes to: satisfied, violated (document 01's term: its opposite is satisfied), or
 // open (document 02's: neither).
-#[derive(Clone, Copy)]
+#[derive(Clone, Copy, PartialEq, Eq)]
 pub enum Outcome {
     Satisfied,
     Violated,
@@ -54,7 +54,7 @@ pub enum Outcome {
 
 // What becomes of a marked part at a settling: it stays marked, it ends, or it is a CHOICE that takes
 // its first or its second child.
-#[derive(Clone, Copy)]
+#[derive(Clone, Copy, PartialEq, Eq)]
 pub enum Transition {
     Stays,
     Ends,
@@ -63,101 +63,72 @@ pub enum Transition {
 }
 
 // Why a call is refused: the names of the numbers in specs/Answers.antt and in the header.
-#[derive(Clone, Copy)]
+#[derive(Clone, Copy, PartialEq, Eq)]
 pub enum Refusal {
-    FileTooShort,
-    SizeOutOfRange,
-    WrongLength,
-    UnknownKind,
-    OperandNotAllowed,
-    NotOneTree,
-    TooDeep,
-    BufferTooShort,
-    NotATable,
-    RecordNotAllowed,
-    WrongPhase,
-    TimeBeforeLast,
-    EstimateNotAllowed,
-    RunFinished,
-    NothingAtWork,
-    NotAText,
+    FileTooShort = 1,
+    SizeOutOfRange = 2,
+    WrongLength = 3,
+    UnknownKind = 4,
+    OperandNotAllowed = 5,
+    NotOneTree = 6,
+    TooDeep = 7,
+    BufferTooShort = 8,
+    NotATable = 9,
+    RecordNotAllowed = 10,
+    WrongPhase = 11,
+    TimeBeforeLast = 12,
+    EstimateNotAllowed = 13,
+    RunFinished = 14,
+    NothingAtWork = 15,
+    NotAText = 16,
 }
 
-// What a call that gives no value answers.
-#[derive(Clone, Copy)]
-pub enum Answer {
-    Done,
-    Refused(Refusal),
-}
+// What a call answers: a value, or why it is refused. An offer gives the lowest contested variable, if any is.
+pub type Answer<T> = Result<T, Refusal>;
 
-// What an offer answers: a refusal, that no variable is contested, or the lowest that is.
-#[derive(Clone, Copy)]
-pub enum OfferAnswer {
-    Refused(Refusal),
-    Agreed,
-    Contested(u8),
-}
-
-// What a settling answers: a refusal, or whether the run goes on.
-#[derive(Clone, Copy)]
-pub enum SettleAnswer {
-    Refused(Refusal),
+// What a settling gives: whether the run goes on.
+#[derive(Clone, Copy, PartialEq, Eq)]
+pub enum Progress {
     Running,
     Finished,
 }
 
-// The number by which document 01 names a refusal.
-pub fn refusal_number(r: Refusal) -> u32
-    ensures { result ≡ refusal_number r }
-{
-    match r {
-        Refusal::FileTooShort => 1,
-        Refusal::SizeOutOfRange => 2,
-        Refusal::WrongLength => 3,
-        Refusal::UnknownKind => 4,
-        Refusal::OperandNotAllowed => 5,
-        Refusal::NotOneTree => 6,
-        Refusal::TooDeep => 7,
-        Refusal::BufferTooShort => 8,
-        Refusal::NotATable => 9,
-        Refusal::RecordNotAllowed => 10,
-        Refusal::WrongPhase => 11,
-        Refusal::TimeBeforeLast => 12,
-        Refusal::EstimateNotAllowed => 13,
-        Refusal::RunFinished => 14,
-        Refusal::NothingAtWork => 15,
-        Refusal::NotAText => 16,
+impl From<Refusal> for u32 {
+    ghost from_gives = { λ r n. n ≡ refusal_number r };
+
+    fn from(r: Refusal) -> u32 {
+        r as u32
     }
 }
 
-// An answer as a number: 0, or the refusal's.
-pub fn answer_number(a: Answer) -> u32
-    ensures { result ≡ answer_number a }
+// The number of an answer that gives no value: 0, or the refusal's.
+pub fn answer_number(answer: Answer<()>) -> u32
+    ensures { result ≡ answer_number answer }
 {
-    match a {
-        Answer::Done => 0,
-        Answer::Refused(r) => refusal_number(r),
+    match answer {
+        Ok(()) => 0,
+        Err(why) => why.into(),
     }
 }
 
-// An offer's answer as a number: the refusal's, or 256 and the lowest contested variable, 255 for none.
-pub fn offer_number(a: OfferAnswer) -> u32
-    ensures { result ≡ offer_number a }
+// The number of an offer's answer: the refusal's, or 256 and the lowest contested variable, 255 for none.
+pub fn offer_number(answer: Answer<Option<u8>>) -> u32
+    ensures { result ≡ offer_number answer }
 {
-    match a {
-        OfferAnswer::Refused(r) => refusal_number(r),
-        OfferAnswer::Agreed => ANSWERED + (NO_VARIABLE as u32),
-        OfferAnswer::Contested(v) => ANSWERED + (v as u32),
+    match answer {
+        Ok(Some(v)) => ANSWERED + u32::from(v),
+        Ok(None) => ANSWERED + u32::from(NO_VARIABLE),
+        Err(why) => why.into(),
     }
 }
 
-// A settling's answer as a number: the refusal's, or 256 where the run goes on, or 257.
-pub fn settle_number(a: SettleAnswer) -> u32
-    ensures { result ≡ settle_number a }
+// The number of a settling's answer: the refusal's, or 256 where the run goes on, or 257.
+pub fn settle_number(answer: Answer<Progress>) -> u32
+    ensures { result ≡ settle_number answer }
 {
-    match a {
-        SettleAnswer::Refused(r) => refusal_number(r),
-        SettleAnswer::Running => ANSWERED,
-        SettleAnswer::Finished => ANSWERED + 1,
+    match answer {
+        Ok(Progress::Running) => ANSWERED,
+        Ok(Progress::Finished) => ANSWERED + 1,
+        Err(why) => why.into(),
     }
 }

@@ -12,14 +12,12 @@ use Rattle.base.proofs.Stores.{sets-append}
 use Rattle.meaning.specs.declared.Form.{Form}
 use Rattle.meaning.specs.declared.Form.TheVariants.{File, Table}
 use Rattle.meaning.specs.declared.Refusal.{Refusal}
-use Rattle.meaning.specs.declared.Answer.{Answer}
-use Rattle.meaning.specs.declared.Answer.TheVariants.{Refused}
 use Rattle.meaning.specs.Sizes.{no_part, header_length, length_of, bytes_at}
 use Rattle.meaning.specs.Tree.{Part, size}
 use Rattle.meaning.specs.Program.{parts, variables, clocks, size_bytes, entries, is_tree, program_refusal, operand_bytes, entry_at}
 use Rattle.meaning.specs.Table.{Row, link_bytes, row_bytes, block, table_of, compiled, compile_refusal, compiled_into}
-use Rattle.meaning.specs.Answers.{answer_number, buffer_too_short}
-use Rattle.meaning.proofs.Answers.{is_refused}
+use Rattle.meaning.specs.Answers.{refusal_number, buffer_too_short}
+use Rattle.meaning.proofs.Answers.{refusal_positive}
 use Rattle.meaning.proofs.Files.{Holds, accepted, sizes_back}
 use Rattle.meaning.proofs.Tables.{rows_entries, compiled_is, row_entry}
 use Rattle.program_walk.specs.Walk.{OneTree, part_at}
@@ -84,12 +82,13 @@ module _ (f out : List ℕ) where
   abbrev CompiledAs : ℕ → List ℕ → Type 0
   CompiledAs n out₁ = (n ≡ compile_refusal f (length out)) × (out₁ ≡ compiled_into f out)
 
-  pub compile_refused : (a : Answer) (r : Refusal) → answer_number a ≡ program_refusal File f → a ≡ Refused r → CompiledAs (answer_number a) out
+  pub compile_refused : (r : Refusal) → refusal_number r ≡ program_refusal File f → CompiledAs (refusal_number r) out
   unfolding compile_refusal compiled_into
-  compile_refused a r e d =
-      effect (answer_number a) (compile_refusal f (length out)) (sets out 0 (compiled File f)) out out
-      (e ∙ rw (ne_eqb (program_refusal File f) 0 (is_refused a r (program_refusal File f) e d)))
-      (rw (ne_eqb (answer_number a) 0 (is_refused a r (answer_number a) refl d)))
+  compile_refused r e =
+      let counts : program_refusal File f ≡ 0 → ⊥ = λ z. refusal_positive r (e ∙ z) in
+      effect (refusal_number r) (compile_refusal f (length out)) (sets out 0 (compiled File f)) out out
+      (e ∙ rw (ne_eqb (program_refusal File f) 0 counts))
+      (rw (ne_eqb (refusal_number r) 0 (refusal_positive r)))
 
   module _ (n m : ℕ) (h : program_refusal File f ≡ 0) (n-is : n ≡ parts f) (m-is : m ≡ length_of Table n) where
     pub compile_short : length out < m → CompiledAs buffer_too_short out

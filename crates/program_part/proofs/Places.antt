@@ -1,15 +1,17 @@
 -- Where the entry of a part stands.
 use Prim.Native.Nat.{ℕ, ◌+◌, ◌<◌, ◌≤◌}
 use native.Mathlib.Omega.{arith}
-use mathlib.Core.Path.{◌≡◌}
+use mathlib.Core.Path.{◌≡◌, sym, ◌∙◌}
 use mathlib.Core.Bool.{true}
-use mathlib.Core.List.{List}
-use lib.ListN.{get_or, length}
+use mathlib.Core.List.{List, ◌++◌}
+use lib.ListN.{get_or, length, take, drop}
+use lib.Seq.{sets}
+use Rattle.base.proofs.Stores.{take_bytes, sets_start}
 use Rattle.program_part.specs.Readable.{Readable}
 use Rattle.meaning.specs.declared.Operand.{Operand}
 use Rattle.meaning.specs.declared.Form.{Form}
 use Rattle.meaning.specs.declared.Form.TheVariants.{File, Table}
-use Rattle.meaning.specs.Sizes.{max_parts, operand_length, kind_place, operand_place}
+use Rattle.meaning.specs.Sizes.{max_parts, header_length, operand_length, bytes_at, kind_place, operand_place}
 use Rattle.meaning.specs.Program.{parts, operand_at, entry_at}
 use Rattle.meaning.specs.Table.{is_table}
 use Rattle.meaning.proofs.Tables.{table_held}
@@ -39,3 +41,9 @@ parts_fit t table =
 
 pub row_readable : (t : List ℕ) (p : ℕ) → is_table t ≡ true → p < parts t → Readable Table t p
 row_readable t p table there = record { long = omega (arith, (table_held t table).1.length_is); there = there }
+
+-- the three sizes, copied to the head of other bytes
+pub sizes_copied : (out m s : List ℕ) → header_length ≤ length out → header_length ≤ length s → m ≡ take header_length s → m ++ drop header_length out ≡ sets out 0 (bytes_at s 0 header_length)
+sizes_copied out m s o h m-is =
+    let sizes : m ≡ bytes_at s 0 header_length = m-is ∙ take_bytes s 0 header_length h in
+    rw sizes (sym (sets_start out (bytes_at s 0 header_length) o))

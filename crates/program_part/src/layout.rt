@@ -66,6 +66,7 @@ pub fn read_sizes(s: &[u8]) -> Sizes
 }
 
 // Whether the three sizes lie within their limits.
+#[tactic(auto, unfolding(meaning::specs::Program::sizes_allowed))]
 pub fn sizes_allowed(s: &[u8]) -> bool
     ensures { result ≡ sizes_allowed s.now }
 {
@@ -136,7 +137,8 @@ pub fn read_entry(s: &[u8], form: Form, p: Number) -> Entry
     Entry { kind, operand }
 }
 
-// The number that stands at place i of part p's row.
+// The number that stands at place i of part p's row. It and what follows take bytes, and no checked
+// table: the check of a table reads rows by them while the bytes may still be none.
 fn link_at(t: &[u8], p: Number, i: usize) -> Number
     requires readable { Readable Table t.now p }
     requires number_width_bound { i + number_width ≤ row_length }

@@ -12,7 +12,9 @@ use Rattle.base.specs.Lists.{all}
 use Rattle.base.proofs.Lists.{and_left, and_right}
 use Rattle.meaning.specs.declared.Entry.{Entry}
 use Rattle.meaning.specs.declared.Form.{Form}
-use Rattle.meaning.specs.Kinds.{Kind, UNKNOWN, GOAL, START, WAIT, SEQ, PAR, MAINTAIN, CHOICE, REPEAT, kind_of, known, operand_allowed}
+use Rattle.meaning.specs.declared.kinds.Kind.{Kind}
+use Rattle.meaning.specs.declared.kinds.Kind.TheVariants.{Unknown as UNKNOWN, Goal as GOAL, Start as START, Wait as WAIT, Seq as SEQ, Par as PAR, Maintain as MAINTAIN, Choice as CHOICE, Repeat as REPEAT}
+use Rattle.meaning.specs.Kinds.{kind_of, known, operand_allowed}
 use Rattle.meaning.specs.Tree.{Part, children}
 use Rattle.meaning.specs.Program.{entries, entry_known, entry_allowed, arity_of, take_children, follow, trees, single, tree_of, is_tree}
 use Rattle.meaning.proofs.Parsing.{Placed, placed, makes}

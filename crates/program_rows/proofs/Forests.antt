@@ -16,7 +16,9 @@ use Rattle.base.proofs.Stores.{sets-append, sets_before, sets_inside, sets_start
 use Rattle.meaning.specs.declared.Entry.{Entry}
 use Rattle.meaning.specs.declared.Form.TheVariants.{File, Table}
 use Rattle.meaning.specs.Sizes.{byte_values, number_limit, no_part, header_length, end_place, parent_place, next_place, row_length, length_of, number_at}
-use Rattle.meaning.specs.Kinds.{Kind, PAR, kind_of}
+use Rattle.meaning.specs.declared.kinds.Kind.{Kind}
+use Rattle.meaning.specs.declared.kinds.Kind.TheVariants.{Par as PAR}
+use Rattle.meaning.specs.Kinds.{kind_of}
 use Rattle.meaning.specs.Tree.{Part, kind, children, size}
 use Rattle.meaning.specs.Program.{parts, entries, entry_at, arity_of, trees, follow, take_children, operand_bytes}
 use Rattle.meaning.specs.Table.{Row, next_of, siblings, block}
@@ -105,12 +107,12 @@ module _ (s : List ℕ) (k : Kind) (n q remaining : ℕ) (out whole : List ℕ) 
   pub rowing_stands : TreeAt es q
   rowing_stands = head_stands es q remaining w.left first
 
-  follows_is : ltb 1 remaining ≡ nonempty (map block first.rest)
+  follows_is : ltb 0 (remaining - 1) ≡ nonempty (map block first.rest)
   follows_is = go first.rest (w.left.many ∙ ap length first.are)
     where
-      go : (ps : List Part) → remaining ≡ suc (length ps) → ltb 1 remaining ≡ nonempty (map block ps)
-      go [] e = le-ltb 1 remaining (omega arith)
-      go (p ∷ ps) e = lt-ltb 1 remaining (omega arith)
+      go : (ps : List Part) → remaining ≡ suc (length ps) → ltb 0 (remaining - 1) ≡ nonempty (map block ps)
+      go [] e = le-ltb 0 (remaining - 1) (omega arith)
+      go (p ∷ ps) e = lt-ltb 0 (remaining - 1) (omega arith)
 
   rowing_next : Rowing s k n (q + size first.part) (remaining - 1)
       (sets
@@ -131,7 +133,7 @@ module _ (s : List ℕ) (k : Kind) (n q remaining : ℕ) (out whole : List ℕ) 
       }
 
   -- a child is written: what is inside it, then itself
-  pub rowing_child : (e next : ℕ) (follows : Bool) (out₁ out₂ : List ℕ) → e ≡ end_of s q → out₁ ≡ inner_written s q out → follows ≡ ltb 1 remaining → next ≡ next_of k q e follows
+  pub rowing_child : (e next : ℕ) (follows : Bool) (out₁ out₂ : List ℕ) → e ≡ end_of s q → out₁ ≡ inner_written s q out → follows ≡ ltb 0 (remaining - 1) → next ≡ next_of k q e follows
       → out₂ ≡ sets out₁ (header_length + row_length * q) (entry_row (entry_at File s q) e n next) → Rowing s k n e (remaining - 1) out₂ whole end
   rowing_child e next follows out₁ out₂ he h₁ hf hn h₂ =
       rw (h₂, hn, h₁, he, head_part es q remaining w.left first, hf, follows_is) rowing_next
@@ -314,7 +316,7 @@ module _ (s : List ℕ) (k : Kind) (n q remaining : ℕ) (out whole : List ℕ) 
         ∙ rw same
 
     -- the child gets its links, and the others still stand
-    pub link_child : (follows : Bool) → follows ≡ ltb 1 remaining → x ≡ next_of k q e follows → Rowing s k n e (remaining - 1) out₂ whole end
+    pub link_child : (follows : Bool) → follows ≡ ltb 0 (remaining - 1) → x ≡ next_of k q e follows → Rowing s k n e (remaining - 1) out₂ whole end
     link_child follows follows-are x-is = rowing_child s k n q remaining out whole end w some-remaining e x follows out out₂ e-is inside_written follows-are x-is linked
 
     pub others_stand : Forest s out₂ e

@@ -5,7 +5,7 @@ use Rattle.std.proofs.lemmas.List.Edits.{sets}
 use Rattle.meaning.specs.declared.Entry.{Entry}
 use Rattle.meaning.specs.declared.Form.TheVariants.{File}
 use Rattle.meaning.specs.Sizes.{no_part, number_bytes, header_length, parent_place, next_place, row_length}
-use Rattle.meaning.specs.Kinds.{PAR}
+use Rattle.meaning.specs.declared.kinds.Kind.TheVariants.{Par as PAR}
 use Rattle.meaning.specs.Tree.{Part, kind, children, size}
 use Rattle.meaning.specs.Program.{trees, entry_at, entries, operand_bytes}
 use Rattle.meaning.specs.Table.{Row, block, siblings}

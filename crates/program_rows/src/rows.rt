@@ -2,37 +2,35 @@
 ghost use Rattle.std.specs.Prelude.{◌≡◌, ◌+◌, ◌*◌, ◌≤◌, length};
 ghost use Rattle.std.proofs.lemmas.List.Edits.{sets};
 ghost use Rattle.meaning.specs.Sizes.{number_width, header_length, operand_length, row_length, number_bytes};
-ghost use Rattle.meaning.specs.Kinds.{kind_of};
 ghost use Rattle.meaning.specs.Program.{operand_bytes};
 ghost use Rattle.meaning.specs.Table.{next_of};
 ghost use Rattle.program_rows.specs.Rows.{entry_row, with_links};
 
 use base::store;
-use meaning::kinds::{REPEAT, SEQ};
-use meaning::sizes::{END_PLACE, NEXT_PLACE, NO_PART, OPERAND_PLACE, PARENT_PLACE};
+use meaning::kinds::Kind;
+use meaning::sizes::{END_PLACE, NEXT_PLACE, NO_PART, OPERAND, OPERAND_PLACE, PARENT_PLACE};
 use meaning::{Entry, Number, Operand};
 use program_part::layout::row_place;
 
 // The next of a child of a part of that kind.
-pub fn next_of(kind: u8, q: Number, e: Number, follows: bool) -> Number
-    ensures { result ≡ next_of (kind_of kind) q e follows }
+#[tactic(auto, unfolding(meaning::specs::Table::next_of))]
+pub fn next_of(kind: Kind, q: Number, e: Number, follows: bool) -> Number
+    ensures { result ≡ next_of kind q e follows }
 {
     match kind {
-        SEQ => { if follows { e } else { NO_PART } }
-        REPEAT => q,
+        Kind::Seq => { if follows { e } else { NO_PART } }
+        Kind::Repeat => q,
         _ => NO_PART,
     }
 }
 
 // Stores an operand from place i on.
+#[tactic(auto, using(crate::proofs::Storing::operand_stored))]
 pub fn put_operand(out: &mut [u8], i: usize, o: Operand)
     requires { i + operand_length ≤ length out.old }
     ensures { out.new ≡ sets out.old i (operand_bytes o) }
 {
-    store(out, i, o.b0);
-    store(out, i + 1, o.b1);
-    store(out, i + 2, o.b2);
-    store(out, i + 3, o.b3);
+    out[i..i + OPERAND].copy_from_slice(&[o.b0, o.b1, o.b2, o.b3]);
 }
 
 // Stores a part's number from place i on.

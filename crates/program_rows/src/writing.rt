@@ -10,6 +10,7 @@ ghost use Rattle.program_walk.specs.Walk.{Walkable, OneTree};
 ghost use Rattle.program_rows.specs.Rows.{Forest, row_written, rows_of};
 
 use crate::rows::{next_of, put_links, put_row};
+use meaning::kinds::Kind;
 use meaning::sizes::{END_PLACE, NO_PART};
 use meaning::{Form, Number};
 use program_part::kinds::arity;
@@ -24,14 +25,12 @@ fn write_row(s: &[u8], out: &mut [u8], p: Number)
     ensures { out.new ≡ row_written s.now p out.old }
 {
     let part = entry_at(s, Form::File, p);
-    let mut remaining = arity(part);
     let mut q = p + 1;
-    while remaining > 0 {
+    for remaining in (0..arity(part)).rev() {
         let e = read_number(out, row_place(q) + END_PLACE);
-        let next = next_of(part.kind, q, e, 1 < remaining);
+        let next = next_of(Kind::from(part.kind), q, e, remaining > 0);
         put_links(out, q, p, next);
         q = e;
-        remaining = remaining - 1;
     }
     put_row(out, p, part, q, NO_PART, NO_PART);
 }
@@ -42,9 +41,7 @@ pub fn write_rows(s: &[u8], out: &mut [u8])
     requires s_in_bounds { length_of Table (parts s.now) ≤ length out.old }
     ensures { out.new ≡ sets out.old header_length (rows_of s.now) }
 {
-    let mut p = parts(s);
-    while 0 < p {
-        p = p - 1;
+    for p in (0..parts(s)).rev() {
         write_row(s, out, p);
     }
 }

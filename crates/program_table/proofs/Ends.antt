@@ -16,7 +16,7 @@ use Rattle.base.specs.Lists.{sum}
 use Rattle.meaning.specs.declared.Entry.{Entry}
 use Rattle.meaning.specs.declared.Form.TheVariants.{Table}
 use Rattle.meaning.specs.Sizes.{no_part, max_depth}
-use Rattle.meaning.specs.Kinds.{Kind}
+use Rattle.meaning.specs.declared.kinds.Kind.{Kind}
 use Rattle.meaning.specs.Tree.{Part, children, size, depth}
 use Rattle.meaning.specs.Program.{parts, variables, clocks, entries, trees, tree_of, program_refusal}
 use Rattle.meaning.specs.Table.{end_at, is_table, compiled}

@@ -1,4 +1,5 @@
 pub mod Around
 pub mod Ends
 pub mod RowChecks
+pub mod KindTests
 pub mod TableChecks

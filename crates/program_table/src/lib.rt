@@ -2,16 +2,17 @@
 #![tactic(auto)]
 
 pub mod checking;
+pub mod table;
 
 ghost use Rattle.std.specs.Prelude.{◌≡◌};
 ghost use Rattle.meaning.specs.Table.{is_table};
 
-use crate::checking::{parts_end, rows_match};
+use crate::checking::{Rows, parts_end};
 use meaning::Form;
 use meaning::sizes::HEADER;
 use program_part::layout::{length_of, parts, sizes_allowed};
 
-// Whether the bytes are the table of some file.
+// Whether the bytes are the table of some file. Test by test, and not in one `&&`: each answer has a law of its own.
 pub fn is_table(table: &[u8]) -> bool
     ensures { result ≡ is_table table.now }
 {
@@ -27,5 +28,5 @@ pub fn is_table(table: &[u8]) -> bool
     if parts_end(table, 0, 1, 0) != parts(table) {
         return false;
     }
-    rows_match(table)
+    Rows { bytes: table }.rows_match()
 }

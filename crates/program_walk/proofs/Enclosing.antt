@@ -11,7 +11,7 @@ use lib.ListN.{get_or}
 use borrow.Author.Tests.{lt-ltb, le-ltb}
 use Rattle.base.specs.Lists.{sum, flat, tabulate, flag}
 use Rattle.meaning.specs.Sizes.{no_part}
-use Rattle.meaning.specs.Kinds.{Kind}
+use Rattle.meaning.specs.declared.kinds.Kind.{Kind}
 use Rattle.meaning.specs.Tree.{Part, children, size}
 use Rattle.meaning.specs.Program.{Within}
 use Rattle.meaning.specs.Table.{table_of, end_at, is_table}

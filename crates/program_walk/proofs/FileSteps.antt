@@ -15,8 +15,7 @@ use Rattle.meaning.specs.Sizes.{max_depth}
 use Rattle.meaning.specs.Tree.{Part, children, size}
 use Rattle.meaning.specs.Program.{parts, variables, clocks, entry_at, entries, entry_allowed, trees}
 use Rattle.meaning.proofs.Trees.{size_law}
-use Rattle.program_part.specs.declared.kinds.Children.{Children}
-use Rattle.program_part.specs.declared.kinds.Children.TheVariants.{Count, NotAllowed}
+use Rattle.std.specs.Prelude.{Option, None, Some}
 use Rattle.program_part.specs.Children.{count_if, children_of}
 use Rattle.program_walk.specs.Walk.{TreeAt, along, end_with, any_end, part_end, parts_end}
 use Rattle.program_walk.specs.Steps.{Step, down, up, each_steps, tour, tree_steps, if_ended, children_at, inside_steps, part_steps, along_steps, parts_steps, walk_steps}
@@ -38,11 +37,11 @@ module _ (s : List ℕ) where
   stopped q ms h = record { within = h; further = λ f. absurd (f refl); not_beyond = λ f. absurd (f refl); paired = λ f. absurd (f refl) }
 
   -- a part adds a step down to the steps of its children, and one up where they end
-  inside_bounded : (ends : ℕ → ℕ → ℕ) (steps : ℕ → ℕ → List Step) → AllBounded ends steps → (d p : ℕ) → p < parts s → (c : Children)
+  inside_bounded : (ends : ℕ → ℕ → ℕ) (steps : ℕ → ℕ → List Step) → AllBounded ends steps → (d p : ℕ) → p < parts s → (c : Option ℕ)
       → Bounded p (end_with ends c p) (down p d ∷ (inside_steps steps c (suc p) ++ if_ended (end_with ends c p) (up p d ∷ [])))
   unfolding AllBounded
-  inside_bounded ends steps h d p there NotAllowed = stopped p (down p d ∷ []) (omega (arith, there))
-  inside_bounded ends steps h d p there (Count n) = go (eqb n 0)
+  inside_bounded ends steps h d p there None = stopped p (down p d ∷ []) (omega (arith, there))
+  inside_bounded ends steps h d p there (Some n) = go (eqb n 0)
     where
       ended : (e : ℕ) → Bounded (suc p) e (steps n (suc p)) → (b : Bool) → eqb e 0 ≡ b → Bounded p e (down p d ∷ (steps n (suc p) ++ cond b [] (up p d ∷ [])))
       ended e k true z =
@@ -161,7 +160,7 @@ module _ (s : List ℕ) where
           → Begins (end_with (parts_end File s any_end levels) (count_if a n) p) (suc p + sum (map size (children c)))
           (down p d ∷ (inside_steps (parts_steps s levels (suc d)) (count_if a n) (suc p) ++ if_ended (end_with (parts_end File s any_end levels) (count_if a n) p) (up p d ∷ [])))
           (down p d ∷ (whole ++ (up p d ∷ [])))
-      allowed k true = part_begins d p (end_with (parts_end File s any_end levels) (Count n) p) _ (cond (eqb n 0) [] (parts_steps s levels (suc d) n (suc p))) whole (inside k (eqb n 0) refl)
+      allowed k true = part_begins d p (end_with (parts_end File s any_end levels) (Some n) p) _ (cond (eqb n 0) [] (parts_steps s levels (suc d) n (suc p))) whole (inside k (eqb n 0) refl)
       allowed k false = none_ended _ (down p d ∷ []) (whole ++ (up p d ∷ [])) _ refl
 
   along_over : (levels d : ℕ)

@@ -1,7 +1,5 @@
 pub mod Entries
 pub mod Standing
-pub mod Numbers
-pub mod Machine
 pub mod Ending
 pub mod Walking
 pub mod TreeSteps

@@ -13,8 +13,7 @@ use borrow.Author.Tests.{lt-ltb, le-ltb, eq-eqb, ne_eqb}
 use Rattle.meaning.specs.declared.Form.TheVariants.{File}
 use Rattle.meaning.specs.Sizes.{max_depth}
 use Rattle.meaning.specs.Program.{parts, entry_at}
-use Rattle.program_part.specs.declared.kinds.Children.{Children}
-use Rattle.program_part.specs.declared.kinds.Children.TheVariants.{Count, NotAllowed}
+use Rattle.std.specs.Prelude.{Option, None, Some}
 use Rattle.program_part.specs.declared.layout.Sizes.{Sizes}
 use Rattle.program_part.specs.Readable.{sizes_in}
 use Rattle.program_part.specs.Children.{children_of}
@@ -117,7 +116,7 @@ module _ (s : List ℕ) (outer depth k p q remaining whole last : ℕ) (g : Goin
 
     module _ (there : q < z.parts) where
       -- the steps over part q after the one down into it, and over the parts after it
-      abbrev after_down : Children → List Step
+      abbrev after_down : Option ℕ → List Step
       after_down c = (inside_steps inside c (suc q) ++ if_ended end (taking Up q d)) ++ others end
 
       entered : Left s k (taking Down q d ++ after_down (children_at s q)) last
@@ -132,21 +131,21 @@ module _ (s : List ℕ) (outer depth k p q remaining whole last : ℕ) (g : Goin
       pub going_enters : (d₁ : ℕ) → d₁ ≡ d → Next s k (taking Down q d₁)
       going_enters d₁ kept = rw kept (left_first s k last (taking Down q d) (after_down (children_at s q)) entered)
 
-      module _ (c : Children) (c-is : c ≡ children_at s q) where
+      module _ (c : Option ℕ) (c-is : c ≡ children_at s q) where
         found_children : c ≡ children_of z.variables z.clocks (entry_at File s q)
         found_children = rw z-is c-is
 
         -- what is left, once it is known of the children
-        known : (x : Children) → c ≡ x → Left s k (taking Down q d ++ after_down x) last
-        known x e = subst (λ (y : Children). Left s k (taking Down q d ++ after_down y) last) (sym c-is ∙ e) entered
+        known : (x : Option ℕ) → c ≡ x → Left s k (taking Down q d ++ after_down x) last
+        known x e = subst (λ (y : Option ℕ). Left s k (taking Down q d ++ after_down y) last) (sym c-is ∙ e) entered
 
-        pub going_refused : c ≡ NotAllowed → (k₁ : ℕ) → k₁ ≡ k + 1 → (0 ≡ whole) × (k₁ ≡ last)
+        pub going_refused : c ≡ None → (k₁ : ℕ) → k₁ ≡ k + 1 → (0 ≡ whole) × (k₁ ≡ last)
         going_refused refused k₁ k₁-is =
             let none : end ≡ 0 = none_found File s any_end below p q remaining whole g.ends some-remaining z z-is there (entry_at File s q) refl c found_children refused in
-            let left : Left s k (taking Down q d) last = rw none at (known NotAllowed refused) in
+            let left : Left s k (taking Down q d) last = rw none at (known None refused) in
             (walk_refused File s any_end below p q remaining whole g.ends some-remaining z z-is there (entry_at File s q) refl c found_children refused, omega (arith, k₁-is, left.last_is))
 
-        module _ (n : ℕ) (n-is : c ≡ Count n) where
+        module _ (n : ℕ) (n-is : c ≡ Some n) where
           -- the depth that is kept is that of the part
           module _ (d₁ : ℕ) (kept : d₁ ≡ d) where
             abbrev ChildrenEnd : ℕ → Type 0
@@ -161,7 +160,7 @@ module _ (s : List ℕ) (outer depth k p q remaining whole last : ℕ) (g : Goin
               leaf_left =
                   let leaf : eqb n 0 ≡ true = eq-eqb n 0 (omega (arith, no_child)) in
                   let ended : eqb (q + 1) 0 ≡ false = ne_eqb (q + 1) 0 (λ e. omega (arith, e)) in
-                  rw ended at (rw (ends_at (q + 1) (inr (no_child, refl))) at (rw leaf at (known (Count n) n-is)))
+                  rw ended at (rw (ends_at (q + 1) (inr (no_child, refl))) at (rw leaf at (known (Some n) n-is)))
 
               pub going_through : Next s k (taking Through q d₁)
               going_through = rw kept (left_first s k last (taking Through q d) (left_steps s d (remaining - 1) (q + 1)) leaf_left)
@@ -176,7 +175,7 @@ module _ (s : List ℕ) (outer depth k p q remaining whole last : ℕ) (g : Goin
 
               part_left : Left s k (taking Down q d ++ (inside n (suc q) ++ after_children)) last
               part_left =
-                  rw (append_assoc (inside n (suc q)) (if_ended end (taking Up q d)) (others end)) at (rw (ne_eqb n 0 (λ e. omega (arith, some_child, e))) at (known (Count n) n-is))
+                  rw (append_assoc (inside n (suc q)) (if_ended end (taking Up q d)) (others end)) at (rw (ne_eqb n 0 (λ e. omega (arith, some_child, e))) at (known (Some n) n-is))
 
               module _ (k₁ : ℕ) (k₁-is : k₁ ≡ k + 1) where
                 children_left : Left s k₁ (inside n (suc q) ++ after_children) last

@@ -12,13 +12,22 @@ use Rattle.base.proofs.Lists.{cond_same}
 use Rattle.meaning.specs.declared.Entry.{Entry}
 use Rattle.meaning.specs.declared.Form.{Form}
 use Rattle.meaning.specs.Program.{parts, variables, clocks, entry_at}
-use Rattle.program_part.specs.declared.kinds.Children.{Children}
-use Rattle.program_part.specs.declared.kinds.Children.TheVariants.{Count, NotAllowed}
+use Rattle.std.specs.Prelude.{Option, None, Some}
 use Rattle.program_part.specs.declared.layout.Sizes.{Sizes}
 use Rattle.program_part.specs.Readable.{sizes_in}
 use Rattle.program_part.specs.Children.{children_of}
 use Rattle.program_walk.specs.Walk.{along, end_with, part_end, parts_end}
 use Rattle.program_walk.proofs.Ending.{part_further, parts_further}
+
+-- the loop counts the parts that it has gone over: what is left of n after i of them
+pub more_left : {i n : ℕ} → i < n → 0 < n - i
+more_left h = omega arith
+
+pub all_gone : {i n : ℕ} → n ≤ i → n - i ≤ 0
+all_gone h = omega arith
+
+pub one_fewer : (i n : ℕ) → n - (i + 1) ≡ n - i - 1
+one_fewer i n = omega arith
 
 -- the parts that are left, from q on, end where all of them do, which stand from p on; `below` levels are left for their children
 pub record Walking (form : Form) (s : List ℕ) (test : ℕ → ℕ → Bool) (below p q remaining whole : ℕ) : Type 0 where
@@ -58,7 +67,7 @@ module _ (form : Form) (s : List ℕ) (test : ℕ → ℕ → Bool) (below p q r
     unfolding part_end
     walk_beyond h = stops (rw (le-ltb q (parts s) (omega (arith, ap (λ (x : Sizes). x.parts) z-is))))
 
-    module _ (there : q < z.parts) (e : Entry) (e-is : e ≡ entry_at form s q) (c : Children) (c-is : c ≡ children_of z.variables z.clocks e) where
+    module _ (there : q < z.parts) (e : Entry) (e-is : e ≡ entry_at form s q) (c : Option ℕ) (c-is : c ≡ children_of z.variables z.clocks e) where
       held : q < parts s
       held = omega (arith, ap (λ (x : Sizes). x.parts) z-is)
 
@@ -69,13 +78,13 @@ module _ (form : Form) (s : List ℕ) (test : ℕ → ℕ → Bool) (below p q r
       unfolding part_end
       end_is = rw (lt-ltb q (parts s) held, children_are)
 
-      pub none_found : c ≡ NotAllowed → end ≡ 0
+      pub none_found : c ≡ None → end ≡ 0
       none_found d = end_is ∙ (rw d (cond_same (test q 0) 0))
 
-      pub walk_refused : c ≡ NotAllowed → 0 ≡ whole
+      pub walk_refused : c ≡ None → 0 ≡ whole
       walk_refused d = stops (none_found d)
 
-      module _ (n : ℕ) (n-is : c ≡ Count n) where
+      module _ (n : ℕ) (n-is : c ≡ Some n) where
         -- a part that has no children ends right after itself, any other where its children do
         abbrev pub ChildrenEnd : ℕ → Type 0
         ChildrenEnd x = ((0 < n) × (x ≡ parts_end form s test below n (q + 1))) ⊎ ((n ≤ 0) × (x ≡ q + 1))

@@ -1,15 +1,13 @@
 -- The steps of the walk that reads a file: down into a part, and up out of it (document 02, R-3: "Keep the current depth while walking down and up").
-use Rattle.std.specs.Prelude.{ℕ, zero, suc, ◌+◌, ◌-◌, ◌≡◌, Bool, true, false, cond, List, [], ◌∷◌, ◌++◌, map, eqb, ltb, drop}
+use Rattle.std.specs.Prelude.{ℕ, zero, suc, ◌+◌, ◌-◌, ◌≡◌, Bool, true, false, cond, Option, None, Some, List, [], ◌∷◌, ◌++◌, map, eqb, ltb, drop}
 use Rattle.base.specs.Lists.{sum, concat, tabulate, flag}
 use Rattle.meaning.specs.declared.Operand.{Operand}
 use Rattle.meaning.specs.declared.Form.TheVariants.{File}
 use Rattle.meaning.specs.Sizes.{max_depth}
-use Rattle.meaning.specs.Kinds.{Kind}
+use Rattle.meaning.specs.declared.kinds.Kind.{Kind}
 use Rattle.meaning.specs.Tree.{Part, fold}
 use Rattle.meaning.specs.Program.{parts, variables, clocks, entry_at}
 use Rattle.meaning.specs.Table.{end_at}
-use Rattle.program_part.specs.declared.kinds.Children.{Children}
-use Rattle.program_part.specs.declared.kinds.Children.TheVariants.{Count, NotAllowed}
 use Rattle.program_part.specs.Children.{children_of}
 use Rattle.program_walk.specs.declared.walk.Way.{Way}
 use Rattle.program_walk.specs.declared.walk.Way.TheVariants.{Down, Up, Through}
@@ -65,13 +63,13 @@ abbrev pub if_ended : ℕ → List Step → List Step
 if_ended e ms = cond (eqb e 0) [] ms
 
 -- what a file says of the children of part p
-abbrev pub children_at : List ℕ → ℕ → Children
+abbrev pub children_at : List ℕ → ℕ → Option ℕ
 children_at s p = children_of (variables s) (clocks s) (entry_at File s p)
 
 -- over children that stand from q on
-abbrev pub inside_steps : (ℕ → ℕ → List Step) → Children → ℕ → List Step
-inside_steps inside NotAllowed q = []
-inside_steps inside (Count n) q = cond (eqb n 0) [] (inside n q)
+abbrev pub inside_steps : (ℕ → ℕ → List Step) → Option ℕ → ℕ → List Step
+inside_steps inside None q = []
+inside_steps inside (Some n) q = cond (eqb n 0) [] (inside n q)
 
 -- over part p at depth d, which ends at e
 unfoldable pub part_steps : List ℕ → (ℕ → ℕ → List Step) → ℕ → ℕ → ℕ → List Step

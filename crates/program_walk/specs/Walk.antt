@@ -7,8 +7,7 @@ use Rattle.meaning.specs.declared.Form.TheVariants.{File}
 use Rattle.meaning.specs.Sizes.{length_of}
 use Rattle.meaning.specs.Tree.{Part, goal, count_operand}
 use Rattle.meaning.specs.Program.{parts, variables, clocks, trees, entry_at, entries}
-use Rattle.program_part.specs.declared.kinds.Children.{Children}
-use Rattle.program_part.specs.declared.kinds.Children.TheVariants.{Count, NotAllowed}
+use Rattle.std.specs.Prelude.{Option as StdOption, None, Some}
 use Rattle.program_part.specs.Children.{children_of}
 
 -- A tree begins at entry p: the walk is asked of such places alone
@@ -50,9 +49,9 @@ abbrev pub accepted_by : (ℕ → Bool) → ℕ → ℕ
 accepted_by test e = cond (test e) e 0
 
 -- part p ends where its children do, or right after itself
-abbrev pub end_with : (ℕ → ℕ → ℕ) → Children → ℕ → ℕ
-end_with inside NotAllowed p = 0
-end_with inside (Count n) p = cond (eqb n 0) (suc p) (inside n (suc p))
+abbrev pub end_with : (ℕ → ℕ → ℕ) → StdOption ℕ → ℕ → ℕ
+end_with inside None p = 0
+end_with inside (Some n) p = cond (eqb n 0) (suc p) (inside n (suc p))
 
 -- where part p ends, if it is allowed and its end passes a test
 unfoldable pub part_end : Form → List ℕ → (ℕ → ℕ → Bool) → (ℕ → ℕ → ℕ) → ℕ → ℕ

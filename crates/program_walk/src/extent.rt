@@ -7,15 +7,17 @@ ghost use Rattle.program_walk.specs.Walk.{any_end, parts_end};
 ghost use Rattle.program_walk.specs.Steps.{AtRoot};
 
 use crate::walk::part_end;
-use crate::walker::{Walker, root};
+use crate::walker::Walker;
 use meaning::Number;
 
-// Where the walker's root ends, 0 where the walk stops.
-pub(crate) fn extent<'a>(w: Walker<'a>) -> Number
-    requires { AtRoot w.file.now w.next }
-    ensures { result ≡ parts_end File w.entry.file.now any_end max_depth 1 w.entry.next }
-{
-    part_end(w.file, w.next)
+impl<'a> Walker<'a> {
+    // Where the walker's root ends, 0 where the walk stops.
+    pub(crate) fn extent(self) -> Number
+        requires { AtRoot self.file.now self.next }
+        ensures { result ≡ parts_end File self.entry.file.now any_end max_depth 1 self.entry.next }
+    {
+        part_end(self.file, self.next)
+    }
 }
 
 // The same of the root of s, by way of a walker.
@@ -23,5 +25,5 @@ pub fn root_extent(s: &[u8]) -> Number
     requires { length_of File (parts s.now) ≤ length s.now }
     ensures { result ≡ parts_end File s.now any_end max_depth 1 0 }
 {
-    extent(root(s))
+    Walker::root(s).extent()
 }

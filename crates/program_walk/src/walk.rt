@@ -13,7 +13,7 @@ ghost use Rattle.program_walk.specs.Steps.{children_at, walk_steps, Next, taking
 use crate::walker::entry_at;
 use meaning::sizes::MAX_DEPTH;
 use meaning::{Form, Number};
-use program_part::kinds::{Children, children_of};
+use program_part::kinds::children_of;
 use program_part::layout::{Sizes, read_sizes};
 
 // The way of the walk at a part: down into it, up out of it, or both at once where it has no children.
@@ -26,7 +26,7 @@ pub enum Way {
 
 // How many children part q has, which stands at this depth. It is looked at only where the walk goes down
 // into it next, after so many steps.
-fn look(s: &[u8], sizes: Sizes, q: Number, depth: u8, taken: u32) -> Children
+fn look(s: &[u8], sizes: Sizes, q: Number, depth: u8, taken: u32) -> Option<Number>
     requires readable { Readable File s.now q }
     requires sizes_value { sizes ≡ sizes_in s.now }
     requires next { Next s.now taken (taking Down q depth) }
@@ -43,22 +43,16 @@ fn take(s: &[u8], way: Way, q: Number, depth: u8, steps: &mut u32)
     ensures { steps.new ≡ steps.old + length (taking way q depth) }
 {
     match way {
-        Way::Down => {
-            *steps = *steps + 1;
-        }
-        Way::Up => {
-            *steps = *steps + 1;
-        }
-        Way::Through => {
-            *steps = *steps + 2;
-        }
+        Way::Down | Way::Up => *steps += 1,
+        Way::Through => *steps += 2,
     }
 }
 
 // The end of `count` parts in a row, of which part p is the first, and which are the children of a part at
 // depth `outer`. It is 0 if there are too few parts, if a part is not allowed, or if one is too deep: then
 // the walk stops. The function calls itself for the children of a part: fewer parts remain at each call, and
-// the calls are at most as deep as the depth that is allowed.
+// the calls are at most as deep as the depth that is allowed. One number that passes in a register, and no
+// option, is what `parts_end` of the definitions gives, of which `whole` and `whole_reached` speak.
 pub(crate) fn parts_end(s: &[u8], p: Number, count: Number, outer: u8, steps: &mut u32) -> Number
     requires s_in_bounds { length_of File (parts s.now) ≤ length s.now }
     requires outer_lt_max_depth { outer < max_depth }
@@ -68,14 +62,13 @@ pub(crate) fn parts_end(s: &[u8], p: Number, count: Number, outer: u8, steps: &m
 {
     let sizes = read_sizes(s);
     let mut depth = outer;
-    let mut remaining = count;
     let mut q = p;
-    while remaining > 0 {
+    for _ in 0..count {
         if sizes.parts <= q {
             return 0;
         }
-        depth = depth + 1;
-        let Children::Count(inside) = look(s, sizes, q, depth, *steps) else {
+        depth += 1;
+        let Some(inside) = look(s, sizes, q, depth, *steps) else {
             take(s, Way::Down, q, depth, steps);
             return 0;
         };
@@ -93,9 +86,8 @@ pub(crate) fn parts_end(s: &[u8], p: Number, count: Number, outer: u8, steps: &m
             }
             take(s, Way::Up, q, depth, steps);
         }
-        depth = depth - 1;
+        depth -= 1;
         q = e;
-        remaining = remaining - 1;
     }
     q
 }
@@ -124,6 +116,5 @@ pub(crate) fn part_end(s: &[u8], p: Number) -> Number
     requires { AtRoot s.now p }
     ensures { result ≡ parts_end File s.now any_end max_depth 1 p }
 {
-    let walked = walk(s, p);
-    walked.end
+    walk(s, p).end
 }

@@ -15,29 +15,28 @@ pub struct Walker<'a> {
     pub next: Number,
 }
 
-// A walker at the first part.
-pub fn root<'a>(file: &'a [u8]) -> Walker<'a>
-    ensures { (result.file ≡ file.entry) × (result.next ≡ 0) }
-{
-    Walker { file, next: 0 }
-}
-
-// The walker stepped on to part p.
-pub fn stepped<'a>(w: Walker<'a>, p: Number) -> Walker<'a>
-    ensures { (result.file ≡ w.entry.file) × (result.next ≡ p) }
-{
-    Walker {
-        file: w.file,
-        next: p,
+impl<'a> Walker<'a> {
+    // A walker at the first part.
+    pub fn root(file: &'a [u8]) -> Walker<'a>
+        ensures { (result.file ≡ file.entry) × (result.next ≡ 0) }
+    {
+        Walker { file, next: 0 }
     }
-}
 
-// The kind and the operand of the part at the walker.
-pub fn part<'a>(w: Walker<'a>, form: Form) -> Entry
-    requires { Readable form w.file.now w.next }
-    ensures { result ≡ entry_at form w.entry.file.now w.entry.next }
-{
-    read_entry(w.file, form, w.next)
+    // The walker stepped on to part p.
+    pub fn stepped(self, p: Number) -> Walker<'a>
+        ensures { (result.file ≡ self.entry.file) × (result.next ≡ p) }
+    {
+        Walker { next: p, ..self }
+    }
+
+    // The kind and the operand of the part at the walker.
+    pub fn part(self, form: Form) -> Entry
+        requires { Readable form self.file.now self.next }
+        ensures { result ≡ entry_at form self.entry.file.now self.entry.next }
+    {
+        read_entry(self.file, form, self.next)
+    }
 }
 
 // What s holds of part p, by way of a walker.
@@ -45,5 +44,5 @@ pub fn entry_at(s: &[u8], form: Form, p: Number) -> Entry
     requires { Readable form s.now p }
     ensures { result ≡ entry_at form s.now p }
 {
-    part(stepped(root(s), p), form)
+    Walker::root(s).stepped(p).part(form)
 }

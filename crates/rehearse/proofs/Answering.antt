@@ -18,8 +18,7 @@ use Rattle.desk_parse.specs.Places.{place_of}
 use Rattle.desk_parse.proofs.Leading.{leading_few, leading_passes, leading_stops}
 use Rattle.desk_dispatch.specs.Making.{ends_run}
 use Rattle.desk_rehearsal.specs.Rehearsal.{parsed_line, max_line}
-use Rattle.desk_input.specs.declared.Piece.{Piece}
-use Rattle.desk_input.specs.declared.Piece.TheVariants.{Held}
+use Rattle.std.specs.Prelude.{Option, None, Some}
 use Rattle.desk_input.specs.Reading.{Reads}
 use Rattle.desk_input.proofs.Brought.{read_inside}
 use Rattle.rehearse.specs.declared.lines.Stand.{Stand}
@@ -149,7 +148,7 @@ module _ (input : List ℕ) (s : Stand) (h : (s.from ≤ s.held) × (s.held ≤ 
       let inside : 0 + n ≤ length (moved input s) = omega (arith, length-sets input 0 (pending input s), h.1) in
       take_bytes (moved input s) 0 n inside ∙ bytes_sets (pending input s) input 0 n (length_bytes input s.from n) (omega (arith, h.1))
 
-  module _ (p : Piece) (input' : List ℕ) (reads : Reads (moved input s) n p input') where
+  module _ (p : Option ℕ) (input' : List ℕ) (reads : Reads (moved input s) n p input') where
     kept_pending : take n input' ≡ pending input s
     kept_pending = reads.kept ∙ moved_pending
 
@@ -173,7 +172,7 @@ module _ (t r : List ℕ) (asked : Bool) (input : List ℕ) (s : Stand) (h : (s.
       record {
         came_is =
             ap (λ (x : List ℕ). x ++ take (k - (s.held - s.from)) (drop (s.held - s.from) input')) so.came_is ∙ append_assoc (flat closed lines) (pending input s) (take (k - (s.held - s.from)) (drop (s.held - s.from) input'))
-            ∙ rw (← (brought_pending input s h (Held k) input' reads k inside.0 inside.1), is, sub-zero, append-nil lines) refl;
+            ∙ rw (← (brought_pending input s h (Some k) input' reads k inside.0 inside.1), is, sub-zero, append-nil lines) refl;
         whole = rw (append-nil lines) so.whole;
       }
     where

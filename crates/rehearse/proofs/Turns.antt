@@ -1,7 +1,8 @@
 -- The turns of a rehearsal: laws of `Standing`.
 use Prim.Native.Nat.{ℕ, suc, ◌+◌, ◌-◌, ◌<◌, ◌≤◌}
+use native.Mathlib.Numerals.{add-one}
 use native.Mathlib.Omega.{arith}
-use mathlib.Core.Path.{◌≡◌, refl}
+use mathlib.Core.Path.{◌≡◌, refl, sym}
 use mathlib.Core.Bool.{Bool, true, false, not, ◌&&◌}
 use mathlib.Core.List.{List}
 use mathlib.Core.Logic.{inl, inr}
@@ -10,11 +11,10 @@ use lib.Seq.{length-sets}
 use Rattle.base.specs.Lists.{bytes_at}
 use Rattle.desk_parse.proofs.Leading.{place_within}
 use Rattle.desk_calls.specs.Places.{line_end}
-use Rattle.desk_dispatch.specs.declared.Turn.{Turn}
+use Rattle.desk_rehearsal.specs.declared.Turn.{Turn}
 use Rattle.desk_dispatch.specs.Counting.{more}
 use Rattle.desk_rehearsal.specs.Rehearsal.{Answered}
-use Rattle.desk_input.specs.declared.Piece.{Piece}
-use Rattle.desk_input.specs.declared.Piece.TheVariants.{Failed, Held}
+use Rattle.std.specs.Prelude.{Option, None, Some}
 use Rattle.rehearse.specs.declared.lines.Stand.{Stand}
 use Rattle.desk_input.specs.Reading.{Reads}
 use Rattle.rehearse.specs.Standing.{moved, next_end, up_to, read_to, after_last, Goes, ReadsOn, Takes, Ran, Runs, max_turns}
@@ -30,16 +30,16 @@ line_goes t r line r' out out' asked printed s from number turn e a =
     record { out = out; out' = out'; turn = turn; printed = printed; answered = rw e at a; stand_is = rw e refl }
 
 -- one read: what it answers, and the state after it
-module _ (t r : List ℕ) (asked : Bool) (input : List ℕ) (s : Stand) (n : ℕ) (input' : List ℕ) (p : Piece) (reads : Reads input n p input') where
-  pub on_failed : (e : Stand) → p ≡ Failed → e ≡ read_to s n false → ReadsOn t r asked input s n r input' e
+module _ (t r : List ℕ) (asked : Bool) (input : List ℕ) (s : Stand) (n : ℕ) (input' : List ℕ) (p : Option ℕ) (reads : Reads input n p input') where
+  pub on_failed : (e : Stand) → p ≡ None → e ≡ read_to s n false → ReadsOn t r asked input s n r input' e
   on_failed e f is = standing.failed (rw f at reads) refl is
 
-  pub on_brought : (k : ℕ) (e : Stand) → p ≡ Held k → n < k → e ≡ read_to s k true → ReadsOn t r asked input s n r input' e
+  pub on_brought : (k : ℕ) (e : Stand) → p ≡ Some k → n < k → e ≡ read_to s k true → ReadsOn t r asked input s n r input' e
   on_brought k e h l is = standing.brought k (rw h at reads) l refl is
 
-  pub on_ended : (k : ℕ) (r' : List ℕ) (last e : Stand) → p ≡ Held k → k ≤ n → n ≤ length input → Goes t r asked (take n input') s 0 r' last → e ≡ after_last last → ReadsOn t r asked input s n r' input' e
+  pub on_ended : (k : ℕ) (r' : List ℕ) (last e : Stand) → p ≡ Some k → k ≤ n → n ≤ length input → Goes t r asked (take n input') s 0 r' last → e ≡ after_last last → ReadsOn t r asked input s n r' input' e
   on_ended k r' last e h l inside goes is =
-      let now : Reads input n (Held k) input' = rw h at reads in
+      let now : Reads input n (Some k) input' = rw h at reads in
       let same : k ≡ n = omega (arith, (read_inside input n k input' inside now).0) in standing.ended last (rw same at now) goes is
 
 -- one turn: which of the three it is
@@ -71,14 +71,18 @@ ran_stands t r asked input _ _ _ _ standing.begun = (omega arith, omega arith)
 ran_stands t r asked input _ _ _ _ (standing.further turns r' input' r'' input'' s e before going takes) =
     turn_stands t r' asked input' s r'' input'' e (ran_stands t r asked input turns r' input' s before) takes
 
--- the turns that are left, counted down
-module _ (t r : List ℕ) (asked : Bool) (input : List ℕ) (left : ℕ) (r' input' : List ℕ) (s : Stand) (ran : Ran t r asked input (max_turns - left) r' input' s) where
-  pub turn_more : (r'' input'' : List ℕ) (e : Stand) → 0 < left → left ≤ max_turns → s.going ≡ true → Takes t r' asked input' s r'' input'' e → Ran t r asked input (max_turns - (left - 1)) r'' input'' e
-  turn_more r'' input'' e some most going takes =
-      let is : suc (max_turns - left) ≡ max_turns - (left - 1) = omega arith in rw is at (standing.further (max_turns - left) r' input' r'' input'' s e ran going takes)
+-- a run that has not ended goes on
+pub going_on : (b : Bool) → not b ≡ false → b ≡ true
+going_on true h = refl
+going_on false h = sym h
+
+-- the turns that were taken
+module _ (t r : List ℕ) (asked : Bool) (input : List ℕ) (turns : ℕ) (r' input' : List ℕ) (s : Stand) (ran : Ran t r asked input turns r' input' s) where
+  pub turn_more : (r'' input'' : List ℕ) (e : Stand) → s.going ≡ true → Takes t r' asked input' s r'' input'' e → Ran t r asked input (turns + 1) r'' input'' e
+  turn_more r'' input'' e going takes = rw (add-one turns) (standing.further turns r' input' r'' input'' s e ran going takes)
 
   pub run_ends : s.going ≡ false → Runs t r asked input r' input' s
-  run_ends h = record { turns = max_turns - left; ran = ran; stops = inl h }
+  run_ends h = record { turns = turns; ran = ran; stops = inl h }
 
-  pub run_used : left ≤ 0 → Runs t r asked input r' input' s
-  run_used h = record { turns = max_turns - left; ran = ran; stops = inr (omega arith) }
+  pub run_used : turns ≡ max_turns → Runs t r asked input r' input' s
+  run_used h = record { turns = turns; ran = ran; stops = inr h }

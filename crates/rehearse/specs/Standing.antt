@@ -3,10 +3,10 @@ use Rattle.std.specs.Prelude.{ℕ, suc, ◌+◌, ◌-◌, ◌<◌, ◌≤◌, �
 use Rattle.std.proofs.lemmas.List.Edits.{sets}
 use Rattle.base.specs.Lists.{bytes_at}
 use Rattle.desk_calls.specs.Places.{line_end}
-use Rattle.desk_dispatch.specs.declared.Turn.{Turn}
+use Rattle.desk_rehearsal.specs.declared.Turn.{Turn}
 use Rattle.desk_dispatch.specs.Counting.{more}
 use Rattle.desk_rehearsal.specs.Rehearsal.{Answered}
-use Rattle.desk_input.specs.declared.Piece.TheVariants.{Failed, Held}
+use Rattle.std.specs.Prelude.{Option, None, Some}
 use Rattle.rehearse.specs.declared.lines.Stand.{Stand}
 use Rattle.desk_input.specs.Reading.{Reads}
 
@@ -38,9 +38,9 @@ pub record Goes (t r : List ℕ) (asked : Bool) (line : List ℕ) (s : Stand) (f
 
 -- a read after the first n bytes: where it brings nothing, the input has ended and they are its last line
 pub data ReadsOn (t r : List ℕ) (asked : Bool) (input : List ℕ) (s : Stand) (n : ℕ) (r' input' : List ℕ) (e : Stand) : Type 0 where
-  failed : Reads input n Failed input' → r' ≡ r → e ≡ read_to s n false → ReadsOn t r asked input s n r' input' e
-  brought : (k : ℕ) → Reads input n (Held k) input' → n < k → r' ≡ r → e ≡ read_to s k true → ReadsOn t r asked input s n r' input' e
-  ended : (last : Stand) → Reads input n (Held n) input' → Goes t r asked (take n input') s 0 r' last → e ≡ after_last last → ReadsOn t r asked input s n r' input' e
+  failed : Reads input n None input' → r' ≡ r → e ≡ read_to s n false → ReadsOn t r asked input s n r' input' e
+  brought : (k : ℕ) → Reads input n (Some k) input' → n < k → r' ≡ r → e ≡ read_to s k true → ReadsOn t r asked input s n r' input' e
+  ended : (last : Stand) → Reads input n (Some n) input' → Goes t r asked (take n input') s 0 r' last → e ≡ after_last last → ReadsOn t r asked input s n r' input' e
 
 -- where the next line ends in the buffer, and the bytes up to a place that are still to be answered
 abbrev pub next_end : List ℕ → Stand → ℕ

@@ -4,7 +4,7 @@ ghost use Rattle.rehearse.specs.Standing.{starting, read_to, after_last, Goes, R
 
 use desk_calls::pieces::{line_end, shift};
 use desk_dispatch::counting::one_more;
-use desk_input::{Piece, read_piece};
+use desk_input::read_piece;
 use desk_output::print;
 use desk_rehearsal::{MAX_LINE, answer_line, summarise};
 use desk_transcript::{MAX_ANSWER, MAX_SUMMARY};
@@ -38,11 +38,11 @@ fn answer(
     let mut text = [0u8; MAX_ANSWER];
     let number = one_more(s.number);
     let turn = answer_line(t, r, s.cycles, number, asked, line, &mut text);
-    let is_printed = print(rt, &rt.stderr(), &text, turn.length);
+    let is_printed = print(rt, &rt.stderr(), &text[..turn.length]);
     Stand {
-        from: from,
+        from,
         held: s.held,
-        number: number,
+        number,
         cycles: turn.cycles,
         going: is_printed & !turn.ends,
         complete: false,
@@ -86,7 +86,7 @@ fn read_to(s: Stand, k: usize, going: bool) -> Stand
         held: k,
         number: s.number,
         cycles: s.cycles,
-        going: going,
+        going,
         complete: false,
     }
 }
@@ -105,8 +105,8 @@ fn read_on(
     requires { n ≤ length input.old }
     ensures { ReadsOn t.now r.old asked input.old s n r.new input.new result }
 {
-    let piece = read_piece(&mut rt.stdin(), &rt.stderr(), b"standard input", input, n);
-    let Piece::Held(k) = piece else {
+    let held = read_piece(&mut rt.stdin(), &rt.stderr(), b"standard input", input, n);
+    let Some(k) = held else {
         return read_to(s, n, false);
     };
     if n < k {
@@ -134,16 +134,17 @@ fn turn(rt: &HostRuntime, t: &[u8], r: &mut [u8], asked: bool, input: &mut [u8],
     read_on(rt, t, r, asked, input, s, held - from)
 }
 
-// Takes turns until the run ends. A proved loop has to end, but the input need not; so the turns are counted down, from
-// a number that is too large to be used up.
+// Takes turns until the run ends. A proved loop has to end, but the input need not; so the turns are counted, up to a
+// number that is too large to be reached.
 fn run(rt: &HostRuntime, t: &[u8], r: &mut [u8], asked: bool, input: &mut [u8]) -> Stand
     ensures { Runs t.now r.old asked input.old r.new input.new result }
 {
     let mut s = start();
-    let mut turns = u64::MAX;
-    while turns > 0 && s.going {
+    for _ in 0..u64::MAX {
+        if !s.going {
+            return s;
+        }
         s = turn(rt, t, r, asked, input, s);
-        turns -= 1;
     }
     s
 }
@@ -162,5 +163,5 @@ pub(crate) fn rehearse(rt: &HostRuntime, t: &[u8], asked: bool) {
 fn print_summary(rt: &HostRuntime, t: &[u8], r: &[u8], cycles: u64) {
     let mut text = [0u8; MAX_SUMMARY];
     let n = summarise(t, r, cycles, &mut text);
-    print(rt, &rt.stderr(), &text, n);
+    print(rt, &rt.stderr(), &text[..n]);
 }

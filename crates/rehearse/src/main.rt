@@ -7,19 +7,18 @@
 mod lines;
 
 use crate::lines::rehearse;
-use desk_answers::write_refused;
-use desk_arguments::arguments::{argument_count, read_argument};
-use desk_arguments::requests::{is_cut, rehearse_request};
+use desk_arguments::arguments::{argument_count, is_cut, read_argument};
+use desk_arguments::requests::rehearse_request;
 use desk_arguments::{Command, MAX_PATH, Request};
 use desk_assembly::assemble_text;
-use desk_input::{Piece, read_file};
+use desk_input::read_file;
 use desk_output::{print, print_error, print_message};
-use desk_rehearsal::opening::open_program;
+use desk_rehearsal::opening::{open_program, write_refusal};
 use desk_texts::forms::is_text;
 use desk_texts::words::MAX_WORDS;
 use desk_transcript::MAX_ANSWER;
+use meaning::Refusal;
 use meaning::sizes::{MAX_FILE, MAX_TABLE};
-use meaning::{Answer, Refusal};
 use text_assemble::MAX_TEXT;
 
 // The places of the arguments that name the program file and ask for the marked parts.
@@ -34,20 +33,19 @@ const MAX_WORD: usize = 5;
 fn rehearse_program(rt: &HostRuntime, file: &[u8], with_parts: bool) {
     let mut table = [0u8; MAX_TABLE];
     let mut text = [0u8; MAX_ANSWER];
-    let opened = open_program(file, &mut table, &mut text);
-    let n = opened.length;
-    if opened.accepted {
-        rehearse(rt, &table[..n], with_parts);
-    } else {
-        print(rt, &rt.stderr(), &text, n);
+    match open_program(file, &mut table, &mut text) {
+        Ok(n) => rehearse(rt, &table[..n], with_parts),
+        Err(n) => {
+            print(rt, &rt.stderr(), &text[..n]);
+        }
     }
 }
 
 // Prints the number of a refusal.
 fn print_refusal(rt: &HostRuntime, why: Refusal) {
     let mut text = [0u8; MAX_ANSWER];
-    let n = write_refused(why, &mut text, 0);
-    print(rt, &rt.stderr(), &text, n);
+    let n = write_refusal(why, &mut text);
+    print(rt, &rt.stderr(), &text[..n]);
 }
 
 // Rehearses the program that a text means, or prints why the text is refused: the number as of a file, and the words on
@@ -55,14 +53,11 @@ fn print_refusal(rt: &HostRuntime, why: Refusal) {
 fn rehearse_text(rt: &HostRuntime, text: &[u8], with_parts: bool) {
     let mut file = [0u8; MAX_FILE];
     let mut words = [0u8; MAX_WORDS];
-    let assembly = assemble_text(text, &mut file, &mut words);
-    let answer = assembly.answer;
-    let n = assembly.length;
-    match answer {
-        Answer::Done => rehearse_program(rt, &file[..n], with_parts),
-        Answer::Refused(why) => {
-            print_refusal(rt, why);
-            print_error(&rt.stderr(), &words, n);
+    match assemble_text(text, &mut file, &mut words) {
+        Ok(n) => rehearse_program(rt, &file[..n], with_parts),
+        Err(refused) => {
+            print_refusal(rt, refused.why);
+            print_error(&rt.stderr(), &words[..refused.length]);
         }
     }
 }
@@ -80,23 +75,21 @@ fn rehearse_input(rt: &HostRuntime, input: &[u8], with_parts: bool) {
 // too and is refused; a program file is shorter.
 fn rehearse_file(rt: &HostRuntime, path: &[u8], with_parts: bool) {
     let mut input = [0u8; MAX_TEXT + 1];
-    let piece = read_file(rt, &rt.stderr(), path, &mut input);
-    if let Piece::Held(n) = piece {
+    if let Some(n) = read_file(rt, &rt.stderr(), path, &mut input) {
         rehearse_input(rt, &input[..n], with_parts);
     }
 }
 
 fn main(rt: HostRuntime) {
-    let mut name = [0u8; MAX_PATH];
-    let argument = read_argument(&rt, NAME, &mut name);
-    let n = argument.length;
-    let cut = is_cut(argument.error);
+    let mut path = [0u8; MAX_PATH];
     let mut word = [0u8; MAX_WORD];
-    let k = read_argument(&rt, WORD, &mut word).length;
-    let request = rehearse_request(argument_count(&rt), &name[..n], cut, &word[..k]);
+    let argument = read_argument(&rt, NAME, &mut path);
+    let name = argument.unwrap_or(&[]);
+    let word = read_argument(&rt, WORD, &mut word).unwrap_or(&[]);
+    let request = rehearse_request(argument_count(&rt), name, is_cut(argument), word);
     match request {
-        Request::File => rehearse_file(&rt, &name[..n], false),
-        Request::FileWithParts => rehearse_file(&rt, &name[..n], true),
+        Request::File => rehearse_file(&rt, name, false),
+        Request::FileWithParts => rehearse_file(&rt, name, true),
         _ => print_message(&rt, &rt.stderr(), Command::Rehearse, request),
     }
 }

@@ -10,8 +10,8 @@ use lib.ListN.{length, get_or, take, drop, drop_of_length-le}
 use lib.Seq.{drop-cons, drop-drop}
 use borrow.Author.Tests.{not-true, not-false, eq-eqb, ne_eqb}
 use Rattle.base.specs.Lists.{any, flag, bytes_at}
-use Rattle.base.proofs.Stores.{length_bytes, get_or_bytes}
-use Rattle.meaning.specs.declared.Entry.{Entry}
+use Rattle.base.proofs.Stores.{length_bytes, get_or_bytes, take_bytes}
+use Rattle.meaning.specs.declared.kinds.Kind.{Kind}
 use Rattle.meaning.specs.declared.Form.TheVariants.{Table}
 use Rattle.meaning.specs.Kinds.{kind_of}
 use Rattle.meaning.specs.Program.{parts, entry_at}
@@ -19,8 +19,6 @@ use Rattle.meaning.specs.Table.{end_at, parent_at, Inside, inside_of, is_table}
 use Rattle.meaning.specs.Record.{marks_place, record_length, phase_of, marks_in, finished, is_mark, marked_children, children_allowed, part_allowed, parts_allowed, root_allowed}
 use Rattle.meaning.proofs.Tables.{inside, root_there}
 use Rattle.meaning.proofs.Nesting.{nested, inner_part, closed_inside}
-use Rattle.program_part.specs.Readable.{Readable}
-use Rattle.program_part.proofs.Places.{row_readable}
 use Rattle.run_record.proofs.Marks.{mark_inside, marks_inside}
 use Rattle.run_allowed.specs.Inner.{inner_marks, part_after}
 use Rattle.run_allowed.proofs.Children.{first_child, no_child, next_child, skip_count, skip_parts}
@@ -48,16 +46,11 @@ marks_next r q e h =
 marks_past : (r : List ℕ) (q e : ℕ) → e ≤ q → bytes_at r (marks_place + q) (e - q) ≡ []
 marks_past r q e h = let k : e - q ≡ 0 = omega arith in rw k
 
--- whether one of the parts from q on, before e, is marked
-module _ (r : List ℕ) (q e : ℕ) where
-  pub any_passes : (b x : Bool) → q < e → b ≡ is_mark (get_or r (marks_place + q) 0) → b ≡ false → any is_mark (bytes_at r (marks_place + q) (e - q)) ≡ x → any is_mark (bytes_at r (marks_place + (q + 1)) (e - (q + 1))) ≡ x
-  any_passes b x h b-is unmarked inv = rw (marks_next r q e h, ← b-is, unmarked) at inv
-
-  pub any_stops : (b x : Bool) → q < e → b ≡ is_mark (get_or r (marks_place + q) 0) → b ≡ true → any is_mark (bytes_at r (marks_place + q) (e - q)) ≡ x → true ≡ x
-  any_stops b x h b-is marked inv = rw (marks_next r q e h, ← b-is, marked) at inv
-
-  pub any_ends : (x : Bool) → e ≤ q → any is_mark (bytes_at r (marks_place + q) (e - q)) ≡ x → false ≡ x
-  any_ends x h inv = rw (marks_past r q e h) at inv
+-- the marks of the parts from one on, before another, are those between the two that code takes as a slice
+pub marks_taken : (r : List ℕ) (from to i j : ℕ) (b : Bool) → from ≤ to → marks_place + to ≤ length r → i ≡ from → j ≡ to → b ≡ any is_mark (take (marks_place + j - (marks_place + i)) (drop (marks_place + i) r)) → b ≡ any is_mark (bytes_at r (marks_place + from) (to - from))
+marks_taken r from to i j b order long i-is j-is b-is =
+    let e : marks_place + to - (marks_place + from) ≡ to - from = omega arith in
+    rw (← (take_bytes r (marks_place + from) (to - from) (omega arith))) (rw (j-is, i-is, e) at b-is)
 
 -- the marks inside part p, as they stand in the record
 inner_bytes : (t r : List ℕ) (p e : ℕ) → e ≡ end_at t p → e ≤ parts t → inner_marks t r p ≡ bytes_at r (marks_place + (p + 1)) (e - (p + 1))
@@ -68,6 +61,9 @@ inner_bytes t r p e e-is h =
     rw (bytes_dropped r marks_place (parts t) (suc p), bytes_taken_lem r (marks_place + suc p) (parts t - suc p) (inside_of t p), k, l)
 
 -- and all of them stand there
+pub inner_order : (t : List ℕ) (p e : ℕ) → is_table t ≡ true → p < parts t → e ≡ end_at t p → p + 1 ≤ e
+inner_order t p e table here e-is = omega (arith, (inside t table p here).end_after)
+
 pub inner_long : (t r : List ℕ) (p e : ℕ) → is_table t ≡ true → record_length ≤ length r → p < parts t → e ≡ end_at t p → marks_place + e ≤ length r
 inner_long t r p e table long here e-is = marks_inside t table r e long (omega (arith, (inside t table p here).end_within_lem))
 
@@ -97,13 +93,10 @@ module _ (t r : List ℕ) (p e : ℕ) (table : is_table t ≡ true) (here : p < 
     inside_p : Inside t p q
     inside_p = (counting.inner, omega arith)
 
-    child_there : q < parts t
+    pub child_there : q < parts t
     child_there = inner_part t table p q inside_p
 
-    -- the row and the mark of a child can be read
-    pub count_held : Readable Table t q
-    count_held = row_readable t q table child_there
-
+    -- the mark of a child can be read
     pub count_marked : record_length ≤ length r → marks_place + q < length r
     count_marked long = mark_inside t table r q long child_there
 
@@ -139,23 +132,13 @@ module _ (t r : List ℕ) (p e : ℕ) (table : is_table t ≡ true) (here : p < 
 
 -- one part, by the mark that the code reads of it
 module _ (t r : List ℕ) (phase p : ℕ) (here : p < parts t) (b : Bool) (b-is : b ≡ is_mark (get_or r (marks_place + p) 0)) where
-  pub marked_allowed : (e : Entry) (n : ℕ) (x : Bool) → b ≡ true → e ≡ entry_at Table t p → n ≡ marked_children t p (suc p) (inner_marks t r p) → x ≡ children_allowed phase (kind_of e.kind) n → x ≡ part_allowed t phase p (get_or (marks_in t r) p 0) (drop (suc p) (marks_in t r))
+  pub marked_allowed : (kind : Kind) (n : ℕ) (x : Bool) → b ≡ true → kind ≡ kind_of (entry_at Table t p).kind → n ≡ marked_children t p (suc p) (inner_marks t r p) → x ≡ children_allowed phase kind n → x ≡ part_allowed t phase p (get_or (marks_in t r) p 0) (drop (suc p) (marks_in t r))
   unfolding inner_marks
-  marked_allowed e n x marked e-is n-is x-is = rw (get_or_bytes r marks_place (parts t) p here, ← b-is, marked, x-is, e-is, n-is)
+  marked_allowed kind n x marked kind-is n-is x-is = rw (get_or_bytes r marks_place (parts t) p here, ← b-is, marked, x-is, kind-is, n-is)
 
   pub unmarked_allowed : (e : ℕ) (x : Bool) → is_table t ≡ true → b ≡ false → e ≡ end_at t p → x ≡ any is_mark (bytes_at r (marks_place + (p + 1)) (e - (p + 1))) → not x ≡ part_allowed t phase p (get_or (marks_in t r) p 0) (drop (suc p) (marks_in t r))
   unfolding inner_marks
   unmarked_allowed e x table unmarked e-is x-is = rw (get_or_bytes r marks_place (parts t) p here, ← b-is, unmarked, x-is, inner_bytes t r p e e-is (omega (arith, (inside t table p here).end_within_lem)))
-
--- the part to look at after part p
-module _ (t r : List ℕ) (p : ℕ) (b : Bool) (b-is : b ≡ is_mark (get_or r (marks_place + p) 0)) where
-  pub after_marked : b ≡ true → p + 1 ≡ part_after t p (get_or r (marks_place + p) 0)
-  unfolding part_after
-  after_marked h = rw (← b-is, h, add-one p)
-
-  pub after_unmarked : (e : ℕ) → b ≡ false → e ≡ end_at t p → e ≡ part_after t p (get_or r (marks_place + p) 0)
-  unfolding part_after
-  after_unmarked e h e-is = rw (← b-is, h, e-is)
 
 -- all parts
 module _ (t r : List ℕ) (phase n p : ℕ) (n-is : n ≡ parts t) where
@@ -202,12 +185,6 @@ module _ (t r : List ℕ) (phase n p : ℕ) (n-is : n ≡ parts t) where
 
 -- the root
 module _ (t r : List ℕ) (phase : ℕ) (phase_is : phase ≡ phase_of r) where
-  pub root_over : (n : ℕ) (x : Bool) → n ≡ parts t → phase ≡ finished → x ≡ any is_mark (bytes_at r (marks_place + 0) (n - 0)) → not x ≡ root_allowed (phase_of r) (marks_in t r)
-  unfolding root_allowed
-  root_over n x n-is f x-is =
-      let k : n - 0 ≡ parts t = omega arith in
-      rw (← phase_is, f, x-is, k)
-
   pub root_runs : (b : Bool) → is_table t ≡ true → (phase ≡ finished → ⊥) → b ≡ is_mark (get_or r (marks_place + 0) 0) → b ≡ root_allowed (phase_of r) (marks_in t r)
   unfolding root_allowed
   root_runs b table f b-is = rw (← phase_is, ne_eqb phase finished f, b-is, get_or_bytes r marks_place (parts t) 0 (root_there t table))

@@ -12,7 +12,7 @@ use Rattle.base.proofs.Lists.{and_right, length-tabulate}
 use Rattle.base.proofs.Stores.{length_bytes, set_before, sets_inside, sets_past, get_or-sets_out}
 use Rattle.meaning.specs.declared.Form.TheVariants.{Table}
 use Rattle.meaning.specs.Sizes.{max_clocks, time_width, little_endian, little_endian_value, byte_values}
-use Rattle.meaning.specs.Kinds.{START}
+use Rattle.meaning.specs.declared.kinds.Kind.TheVariants.{Start as START}
 use Rattle.meaning.specs.Program.{parts, variables, clocks, entry_at}
 use Rattle.meaning.specs.Table.{operand_of, is_table}
 use Rattle.meaning.specs.Record.{started_place, starts_place, marks_place, record_length, time_at, last_time, started_in, starts_in, is_mark, started_flag}

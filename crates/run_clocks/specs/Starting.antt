@@ -4,7 +4,7 @@ use Rattle.std.proofs.lemmas.List.Edits.{sets}
 use Rattle.base.specs.Lists.{flat}
 use Rattle.meaning.specs.declared.Form.TheVariants.{Table}
 use Rattle.meaning.specs.Sizes.{time_width, little_endian}
-use Rattle.meaning.specs.Kinds.{START}
+use Rattle.meaning.specs.declared.kinds.Kind.TheVariants.{Start as START}
 use Rattle.meaning.specs.Program.{entry_at}
 use Rattle.meaning.specs.Table.{operand_of}
 use Rattle.meaning.specs.Record.{started_place, starts_place, marks_place, is_mark, started_flag}

@@ -1,28 +1,31 @@
 -- Goal bytes: the pass over the marked leaves, byte by byte, gives what the definitions say of each variable.
 use Prim.Native.Nat.{ℕ, suc, ◌+◌, ◌-◌, ◌<◌, ◌≤◌}
-use native.Mathlib.Nat.{zero-add, sub-zero}
+use native.Mathlib.Nat.{zero-add}
 use native.Mathlib.Numerals.{add-one}
 use native.Mathlib.Omega.{arith}
 use mathlib.Core.Path.{◌≡◌, refl, sym, ap, ◌∙◌}
-use mathlib.Core.Bool.{Bool, true, false, cond, ◌&&◌, ◌||◌}
+use mathlib.Core.Bool.{Bool, true, false, cond, ◌&&◌, ◌||◌, and-false}
 use mathlib.Core.List.{List, [], ◌∷◌, ◌++◌}
 use lib.Dec.{eqb}
-use lib.ListN.{length, get_or, drop, set, replicate, length-set, length-replicate, get_or-replicate, get_or-append}
-use lib.Seq.{sets, set-append_left, get_or-set_same, get_or-set_other, ext_get_or}
-use borrow.Author.Tests.{eqb-true, eqb-false, eq-eqb, ne_eqb}
+use lib.ListN.{length, get_or, take, drop, replicate, length-set, length-replicate, get_or-replicate, get_or-append}
+use lib.Seq.{sets, length-take-le, set-append_left, get_or-set_same, get_or-set_other, ext_get_or}
+use borrow.Author.Tests.{eqb-true, eqb-false, ne_eqb}
 use Rattle.base.specs.Lists.{all, bytes_at, tabulate}
-use Rattle.base.proofs.Lists.{and_right, length-tabulate, get_or-tabulate}
+use Rattle.base.proofs.Lists.{length-tabulate, get_or-tabulate}
 use Rattle.base.proofs.Stores.{length_bytes, sets_start}
 use Rattle.meaning.specs.declared.Operand.{Operand}
 use Rattle.meaning.specs.declared.Entry.{Entry}
 use Rattle.meaning.specs.declared.Form.TheVariants.{Table}
 use Rattle.meaning.specs.Sizes.{max_value}
-use Rattle.meaning.specs.Kinds.{GOAL, START, WAIT, value}
+use Rattle.meaning.specs.declared.kinds.Kind.{Kind}
+use Rattle.meaning.specs.declared.kinds.Kind.TheVariants.{Goal as GOAL, Start as START, Wait as WAIT}
+use Rattle.meaning.specs.Kinds.{value, kind_of, known}
 use Rattle.meaning.specs.Program.{parts, variables, clocks, entry_at}
 use Rattle.meaning.specs.Table.{is_table}
 use Rattle.meaning.specs.Record.{marks_place, marks_in, is_mark}
 use Rattle.meaning.specs.Cycle.{no_goal, contested, is_kind, is_leaf, leaves_from, values_for, goal_byte, goal_bytes}
 use Rattle.meaning.proofs.Entries.{entry_allowed_lem, goal_fits, length_goals}
+use Rattle.program_table.proofs.KindTests.{kind_byte, kind_byte_not}
 use Rattle.run_goals.specs.Merged.{merged_byte, goal_merged, goals_merged, leaf_at}
 
 -- What the entries of a table satisfy: a GOAL names a variable of the program, and a value that is at most 250
@@ -148,6 +151,13 @@ goals_merged_lem v g es h l =
     let b : sets g 0 (goal_bytes v es) ≡ goal_bytes v es ++ drop v g = rw m at (sets_start g (goal_bytes v es) (rw m l)) in
     rw (a, b) (merged_beside v (replicate v no_goal) (drop v g) es n h ∙ rw (bytes_merged v es h))
 
+-- the bytes that no GOAL names, as code fills them in
+pub goals_begun : (g f : List ℕ) (n : ℕ) → n ≤ length g → f ≡ replicate (length (take n g)) no_goal → f ++ drop n g ≡ sets g 0 (replicate n no_goal)
+goals_begun g f n h f-is =
+    let k : length (take n g) ≡ n = length-take-le n g h in
+    let s : sets g 0 (replicate n no_goal) ≡ replicate n no_goal ++ drop n g = rw (length-replicate n no_goal) at (sets_start g (replicate n no_goal) (rw (length-replicate n no_goal) h)) in
+    rw (f-is, k, s)
+
 -- The pass over the marked leaves of a table, from bytes that no GOAL names, makes the goal bytes
 pub goals_made : (t r g f h : List ℕ) (u v : ℕ) → is_table t ≡ true → variables t ≤ length g → u ≡ variables t → v ≡ u → f ≡ sets g 0 (replicate v no_goal) → h ≡ goals_merged f (leaves_from t 0 (marks_in t r)) → h ≡ sets g 0 (goal_bytes (variables t) (leaves_from t 0 (marks_in t r)))
 goals_made t r g f h u v table room u-is v-is f-is h-is =
@@ -174,9 +184,6 @@ module _ (t r g w : List ℕ) (p n : ℕ) (n-is : n ≡ parts t) where
       let k : n - p ≡ 0 = omega arith in
       rw k at i
 
-pub merge_starts : (t r g : List ℕ) (n : ℕ) → n ≡ parts t → goals_merged g (leaves_from t 0 (bytes_at r (marks_place + 0) (n - 0))) ≡ goals_merged g (leaves_from t 0 (marks_in t r))
-merge_starts t r g n n-is = rw (sub-zero, n-is)
-
 -- one part: a GOAL is a leaf, and no other leaf changes a byte
 leaf_merged : (g : List ℕ) (e : Entry) (m k other : Bool) → is_kind GOAL e ≡ k → goals_merged g (cond (m && (k || other)) (e ∷ []) []) ≡ cond (m && k) (goal_merged g e.operand) g
 unfolding goals_merged
@@ -185,45 +192,34 @@ leaf_merged g e true false true h = rw h
 leaf_merged g e true false false h = refl
 leaf_merged g e false k other h = refl
 
-module _ (t g : List ℕ) (p m : ℕ) (e : Entry) (x y : Bool) (e-is : e ≡ entry_at Table t p) (x-is : x ≡ is_mark m) (y-is : y ≡ is_kind GOAL e) where
-  goal_at : is_kind GOAL (entry_at Table t p) ≡ y
-  goal_at = sym (y-is ∙ ap (is_kind GOAL) e-is)
-
-  part_is : goals_merged g (leaf_at t p m) ≡ cond (x && y) (goal_merged g e.operand) g
+module _ (t g : List ℕ) (p m : ℕ) (b : Bool) (b-is : b ≡ is_mark m) where
+  part_is : (k : Bool) → is_kind GOAL (entry_at Table t p) ≡ k → goals_merged g (leaf_at t p m) ≡ cond (b && k) (goal_merged g (entry_at Table t p).operand) g
   unfolding leaf_at
-  part_is =
+  part_is k h =
       leaf_merged g (entry_at Table t p) (is_mark m) (is_kind GOAL (entry_at Table t p)) (is_kind START (entry_at Table t p) || is_kind WAIT (entry_at Table t p)) refl
-      ∙ rw (← x-is, goal_at) (sym (ap (λ (a : Entry). cond (x && y) (goal_merged g a.operand) g) e-is))
+      ∙ rw (← b-is, h)
 
-  pub part_merged : (h : List ℕ) → (x && y) ≡ true → h ≡ goal_merged g e.operand → h ≡ goals_merged g (leaf_at t p m)
-  part_merged h b h-is = h-is ∙ sym (part_is ∙ rw b)
+  pub part_unmarked : b ≡ false → g ≡ goals_merged g (leaf_at t p m)
+  part_unmarked h = sym (part_is (is_kind GOAL (entry_at Table t p)) refl ∙ rw h)
 
-  pub part_passed : (x && y) ≡ false → g ≡ goals_merged g (leaf_at t p m)
-  part_passed b = sym (part_is ∙ rw b)
+  module _ (kind : Kind) (kind-is : kind ≡ kind_of (entry_at Table t p).kind) where
+    pub part_other : (kind ≡ GOAL → ⊥) → g ≡ goals_merged g (leaf_at t p m)
+    part_other h = sym (part_is false (kind_byte_not GOAL (entry_at Table t p).kind (λ e. h (kind-is ∙ e))) ∙ rw and-false)
 
-  module _ (table : is_table t ≡ true) (l : p < parts t) (b : (x && y) ≡ true) where
-    goal_fitting : (e.operand.b1 < variables t) × (value e.operand ≤ max_value)
-    goal_fitting = rw e-is (table_fits t table p l (goal_at ∙ and_right x y b))
+    module _ (is-goal : kind ≡ GOAL) (e : Entry) (e-is : e ≡ entry_at Table t p) where
+      goal_at : is_kind GOAL (entry_at Table t p) ≡ true
+      unfolding known
+      goal_at = kind_byte GOAL (entry_at Table t p).kind refl (sym kind-is ∙ is-goal)
 
-    pub merge_inside : variables t ≤ length g → e.operand.b1 < length g
-    merge_inside room = omega (arith, goal_fitting.0)
+      pub part_merged : (h : List ℕ) → b ≡ true → h ≡ goal_merged g e.operand → h ≡ goals_merged g (leaf_at t p m)
+      part_merged h marked h-is = h-is ∙ rw e-is (sym (part_is true goal_at ∙ rw marked))
 
-    pub merge_fits : value e.operand ≤ max_value
-    merge_fits = goal_fitting.1
+      module _ (table : is_table t ≡ true) (l : p < parts t) where
+        goal_fitting : (e.operand.b1 < variables t) × (value e.operand ≤ max_value)
+        goal_fitting = rw e-is (table_fits t table p l goal_at)
 
--- a value as a byte of its own
-pub merged_none : (b x : ℕ) → b ≡ no_goal → x ≡ merged_byte b x
-unfolding merged_byte
-merged_none b x h = rw h
+        pub merge_inside : variables t ≤ length g → e.operand.b1 < length g
+        merge_inside room = omega (arith, goal_fitting.0)
 
-pub merged_same : (b x : ℕ) → (b ≡ no_goal → ⊥) → b ≡ x → b ≡ merged_byte b x
-unfolding merged_byte
-merged_same b x n h = rw (ne_eqb b no_goal n, eq-eqb b x h)
-
-pub merged_other : (b x : ℕ) → (b ≡ no_goal → ⊥) → (b ≡ x → ⊥) → contested ≡ merged_byte b x
-unfolding merged_byte
-merged_other b x n h = rw (ne_eqb b no_goal n, ne_eqb b x h)
-
-pub merge_made : (g h : List ℕ) (o : Operand) (v x b c : ℕ) → v ≡ o.b1 → x ≡ value o → b ≡ get_or g v 0 → c ≡ merged_byte b x → h ≡ set g v c → h ≡ goal_merged g o
-unfolding goal_merged
-merge_made g h o v x b c v-is x-is b-is c-is h-is = rw (h-is, c-is, b-is, x-is, v-is)
+        pub merge_fits : value e.operand ≤ max_value
+        merge_fits = goal_fitting.1

@@ -1,45 +1,36 @@
--- The loop that looks for the lowest contested variable.
-use Prim.Native.Nat.{ℕ, suc, ◌+◌, ◌-◌, ◌<◌, ◌≤◌}
-use native.Mathlib.Nat.{sub-zero}
-use native.Mathlib.Numerals.{add-one}
+-- The search for the lowest contested variable: what it finds is what the definition gives.
+use Prim.Native.Nat.{ℕ, zero, suc, ◌+◌, ◌<◌, ◌≤◌}
+use native.Mathlib.Decide.{dec_lt}
 use native.Mathlib.Omega.{arith}
-use mathlib.Core.Path.{◌≡◌, ap}
-use mathlib.Core.Bool.{true, cond}
+use mathlib.Core.Path.{◌≡◌, refl}
 use mathlib.Core.List.{List}
-use lib.Dec.{eqb, ltb}
 use lib.ListN.{get_or}
-use borrow.Author.Tests.{eq-eqb, ne_eqb, lt-ltb}
+use borrow.Author.Tests.{eq-eqb, ne_eqb}
+use Rattle.std.specs.Prelude.{Option, Some, None, Ok}
+use Rattle.std.specs.Option.{MatchOption}
 use Rattle.base.specs.Lists.{bytes_at}
-use Rattle.meaning.specs.Sizes.{max_variables}
 use Rattle.meaning.specs.Cycle.{contested, lowest_contested}
-use Rattle.meaning.specs.Answers.{answered, no_variable}
+use Rattle.meaning.specs.Answers.{answered, no_variable, offer_number}
 
--- what is left to look at, from variable v on
-module _ (g : List ℕ) (v n x : ℕ) (i : lowest_contested v (bytes_at g v (n - v)) ≡ x) where
-  name_next : v < n → cond (eqb (get_or g v 0) contested) v (lowest_contested (suc v) (bytes_at g (suc v) (n - suc v))) ≡ x
+module _ (g : List ℕ) where
+  -- none of the n variables from v on is contested
+  none_named : (v n : ℕ) → ((k : ℕ) → v ≤ k → k < v + n → get_or g k 0 ≡ contested → ⊥) → lowest_contested v (bytes_at g v n) ≡ no_variable
   unfolding lowest_contested
-  name_next l =
-      let k : n - v ≡ suc (n - suc v) = omega arith in
-      rw k at i
+  none_named v zero h = refl
+  none_named v (suc n) h = rw (ne_eqb (get_or g v 0) contested (h v (omega arith) (omega arith))) (none_named (suc v) n (λ k a b. h k (omega arith) (omega arith)))
 
-  pub name_found : (w : ℕ) → v < n → w ≡ v → get_or g w 0 ≡ contested → answered + v ≡ answered + x
-  name_found w l w-is h =
-      let k : v ≡ x = rw (eq-eqb (get_or g v 0) contested (rw (← w-is) h)) at (name_next l) in
-      rw k
-
-  pub name_passed : (w : ℕ) → v < n → w ≡ v → (get_or g w 0 ≡ contested → ⊥) → lowest_contested (v + 1) (bytes_at g (v + 1) (n - (v + 1))) ≡ x
-  name_passed w l w-is h = rw add-one (rw (ne_eqb (get_or g v 0) contested (λ e. h (rw w-is e))) at (name_next l))
-
-  pub name_none : n ≤ v → answered + no_variable ≡ answered + x
+  -- variable i is, and none before it
+  lowest_named : (v n i : ℕ) → v ≤ i → i < v + n → get_or g i 0 ≡ contested → ((k : ℕ) → v ≤ k → k < i → get_or g k 0 ≡ contested → ⊥) → lowest_contested v (bytes_at g v n) ≡ i
   unfolding lowest_contested
-  name_none l =
-      let k : n - v ≡ 0 = omega arith in
-      let e : no_variable ≡ x = rw k at i in
-      ap (λ (y : ℕ). answered + y) e
+  lowest_named v zero i a b e h = absurd (omega arith)
+  lowest_named v (suc n) i a b e h = go (dec_lt v i) (λ l. lowest_named (suc v) n i l (omega arith) e (λ k c d. h k (omega arith) d))
+    where
+      go : Dec (v < i) → (v < i → lowest_contested (suc v) (bytes_at g (suc v) n) ≡ i) → lowest_contested v (bytes_at g v (suc n)) ≡ i
+      go (yes l) later = rw (ne_eqb (get_or g v 0) contested (h v (omega arith) l)) (later l)
+      go (no m) later =
+          let same : i ≡ v = omega (arith, m) in
+          rw (eq-eqb (get_or g v 0) contested (rw same at e)) (omega arith)
 
--- a variable below the number of variables is one that `Contested` may name
-pub name_one : (v n : ℕ) → v < n → n ≤ max_variables → ltb v max_variables ≡ true
-name_one v n l m = lt-ltb v max_variables (omega arith)
-
-pub name_starts : (g : List ℕ) (n : ℕ) → lowest_contested 0 (bytes_at g 0 (n - 0)) ≡ lowest_contested 0 (bytes_at g 0 n)
-name_starts g n = rw sub-zero
+  pub search_named : (n : ℕ) (r : Option ℕ) → MatchOption r ((k : ℕ) → 0 ≤ k → k < n → get_or g k 0 ≡ contested → ⊥) (λ i. (0 ≤ i) × (i < n) × (get_or g i 0 ≡ contested) × ((k : ℕ) → 0 ≤ k → k < i → get_or g k 0 ≡ contested → ⊥)) → offer_number (Ok r) ≡ answered + lowest_contested 0 (bytes_at g 0 n)
+  search_named n None h = rw (none_named 0 n (λ k a b. h k a (omega arith)))
+  search_named n (Some v) h = rw (lowest_named 0 n v h.0 (omega (arith, h.1)) h.2 h.3)

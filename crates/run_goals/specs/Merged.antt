@@ -3,7 +3,8 @@ use Rattle.std.specs.Prelude.{ℕ, cond, ◌&&◌, List, [], ◌∷◌, eqb, get
 use Rattle.meaning.specs.declared.Operand.{Operand}
 use Rattle.meaning.specs.declared.Entry.{Entry}
 use Rattle.meaning.specs.declared.Form.TheVariants.{Table}
-use Rattle.meaning.specs.Kinds.{GOAL, value}
+use Rattle.meaning.specs.declared.kinds.Kind.TheVariants.{Goal as GOAL}
+use Rattle.meaning.specs.Kinds.{value}
 use Rattle.meaning.specs.Program.{entry_at}
 use Rattle.meaning.specs.Record.{is_mark}
 use Rattle.meaning.specs.Cycle.{no_goal, contested, is_kind, is_leaf}

@@ -8,26 +8,16 @@ use mathlib.Core.List.{List, ◌∷◌}
 use lib.ListN.{set}
 use lib.Seq.{sets}
 use Rattle.base.specs.Lists.{flag}
-use Rattle.meaning.specs.Sizes.{number_limit}
-use Rattle.meaning.specs.declared.Entry.{Entry}
-use Rattle.meaning.specs.declared.Form.TheVariants.{Table}
-use Rattle.meaning.specs.Kinds.{kind_of}
-use Rattle.meaning.specs.Program.{parts, entry_at}
+use Rattle.meaning.specs.Program.{parts}
 use Rattle.meaning.specs.Table.{end_at, parent_at, inside_of, is_table}
-use Rattle.meaning.specs.Cycle.{begins_in, begins, initial_marks_from, initial_marks}
-use Rattle.program_part.specs.Readable.{Readable}
-use Rattle.program_part.proofs.Places.{parts_fit, row_readable}
+use Rattle.meaning.specs.Cycle.{begins, initial_marks_from, initial_marks}
 use Rattle.meaning.proofs.Tables.{inside}
 use Rattle.meaning.proofs.Nesting.{inside_root, inside_parent}
 use Rattle.run_initialise.specs.Initialising.{step_mark, step_skip, InitialiseStep}
 
--- what p's parent makes of it
-pub begins_made : (t : List ℕ) (p q : ℕ) (e : Entry) (b : Bool) → q ≡ parent_at t p → e ≡ entry_at Table t q → b ≡ begins_in (kind_of e.kind) q p → b ≡ begins t p
-begins_made t p q e b q-is e-is b-is = b-is ∙ rw (e-is, q-is)
-
 -- the parent of a part other than the root stands in the table
-pub parent_row_readable : (t : List ℕ) (p q : ℕ) → is_table t ≡ true → 0 < p → p < parts t → q ≡ parent_at t p → Readable Table t q
-parent_row_readable t p q table some here q-is = row_readable t q table (omega (arith, (inside_parent t table 0 p (inside_root t table p some here)).0))
+pub parent_there : (t : List ℕ) (p q : ℕ) → is_table t ≡ true → 0 < p → p < parts t → q ≡ parent_at t p → q < parts t
+parent_there t p q table some here q-is = omega (arith, (inside_parent t table 0 p (inside_root t table p some here)).0)
 
 -- one part: it is passed over, it begins, or it does not
 module _ (t l m : List ℕ) (from p w : ℕ) (w-is : w ≡ p) where
@@ -57,13 +47,9 @@ unfolding initial_marks_from step_mark step_skip
 initial_step t p n zero = refl
 initial_step t p n (suc skip) = refl
 
--- the number after a part's is one of a byte, and the parts inside a part stand in the table
-module _ (t : List ℕ) (q : ℕ) (table : is_table t ≡ true) (here : q < parts t) where
-  pub next_fits : q + 1 < number_limit
-  next_fits = omega (arith, parts_fit t table)
-
-  pub turn_there : (p e : ℕ) → e ≡ end_at t q → p < e → p < parts t
-  turn_there p e e-is h = omega (arith, (inside t table q here).end_within_lem)
+-- the parts inside a part stand in the table
+pub turn_there : (t : List ℕ) (q : ℕ) → is_table t ≡ true → q < parts t → (p e : ℕ) → e ≡ end_at t q → p < e → p < parts t
+turn_there t q table here p e e-is h = omega (arith, (inside t table q here).end_within_lem)
 
 -- the loop: its beginning, its turns and its end
 module _ (t : List ℕ) (from : ℕ) where

@@ -27,16 +27,6 @@ lowest_from p (m ∷ ms) = go (is_mark m) (lowest_from (suc p) ms)
     go true h = omega arith
     go false h = omega arith
 
--- and at most one past the last of them
-pub lowest_within : (p : ℕ) (ms : List ℕ) → lowest p ms ≤ p + length ms
-unfolding lowest
-lowest_within p [] = omega arith
-lowest_within p (m ∷ ms) = go (is_mark m) (lowest_within (suc p) ms)
-  where
-    go : (b : Bool) → lowest (suc p) ms ≤ suc p + length ms → cond b p (lowest (suc p) ms) ≤ p + suc (length ms)
-    go true h = omega arith
-    go false h = omega arith
-
 -- something is marked among the first n where the lowest marked part is one of those
 marked_among : (q n : ℕ) (ms : List ℕ) → n ≤ length ms → any is_mark (take n ms) ≡ ltb (lowest q ms) (q + n)
 unfolding lowest

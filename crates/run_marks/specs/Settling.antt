@@ -1,5 +1,5 @@
 -- The settling of one part, as the code makes it on the marks of all parts while it goes from the last part down.
-use Rattle.std.specs.Prelude.{ℕ, suc, ◌+◌, ◌<◌, ◌≡◌, ◌⊎◌, cond, List, eqb, ltb, get_or, set}
+use Rattle.std.specs.Prelude.{ℕ, suc, ◌+◌, ◌<◌, ◌≡◌, min, cond, List, eqb, ltb, get_or, set, Option, None, Some, IfSome}
 use Rattle.std.proofs.lemmas.List.Edits.{sets}
 use Rattle.meaning.specs.declared.Transition.{Transition}
 use Rattle.meaning.specs.declared.Transition.TheVariants.{Stays, Ends, First, Second}
@@ -17,25 +17,34 @@ mark_after Ends = 0
 mark_after First = 1
 mark_after Second = 1
 
--- the part that is initialised by a transition of part p, or no_part
-abbrev pub follower : List ℕ → ℕ → Transition → ℕ
-follower t p Stays = no_part
-follower t p Ends = next_at t p
-follower t p First = suc p
-follower t p Second = end_at t (suc p)
+-- the part that a number of a table's row names, if it names one
+abbrev pub named : ℕ → Option ℕ
+named q = cond (eqb q no_part) None (Some q)
+
+-- the part that is initialised by a transition of part p
+abbrev pub follower : List ℕ → ℕ → Transition → Option ℕ
+follower t p Stays = None
+follower t p Ends = named (next_at t p)
+follower t p First = Some (suc p)
+follower t p Second = Some (end_at t (suc p))
 
 -- a transition that part p of a table can make: what it initialises stands in the table, since only a CHOICE takes a child
 pub record PossibleTransition (t : List ℕ) (p : ℕ) (f : Transition) : Type 0 where
   pub second : f ≡ Second → suc p < parts t
-  pub follows : (follower t p f ≡ no_part) ⊎ (follower t p f < parts t)
+  pub follows : IfSome (follower t p f) (λ q. q < parts t)
 
--- the marks of all parts once part p has mark x and part q, where it is one, is initialised
-unfoldable pub mark_stored : List ℕ → ℕ → ℕ → ℕ → List ℕ → List ℕ
-mark_stored t p x q m = cond (eqb q no_part) (set m p x) (sets (set m p x) q (initial_marks t q))
+-- the marks of all parts once part p has mark x and part q, if there is one, is initialised
+abbrev pub mark_stored : List ℕ → ℕ → ℕ → Option ℕ → List ℕ → List ℕ
+mark_stored t p x None m = set m p x
+mark_stored t p x (Some q) m = sets (set m p x) q (initial_marks t q)
 
 -- the lowest marked part from p on after that, where `low` was the lowest after p
-unfoldable pub lowest_with : ℕ → ℕ → ℕ → ℕ → ℕ
-lowest_with p x q low = cond (is_mark x) p (cond (ltb q low) q low)
+abbrev pub lower : Option ℕ → ℕ → ℕ
+lower None low = low
+lower (Some q) low = min q low
+
+unfoldable pub lowest_with : ℕ → ℕ → Option ℕ → ℕ → ℕ
+lowest_with p x q low = cond (is_mark x) p (lower q low)
 
 -- the transition of part p, where something is marked inside it if the lowest marked part after p stands before p's end
 unfoldable pub part_transition : List ℕ → List ℕ → List ℕ → ℕ → Lowest → Transition

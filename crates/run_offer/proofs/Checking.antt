@@ -5,27 +5,30 @@ use native.Mathlib.Numerals.{add-one}
 use native.Mathlib.Omega.{arith}
 use mathlib.Core.Path.{◌≡◌, refl, sym, ap, ◌∙◌}
 use mathlib.Core.Logic.{inl, inr}
-use mathlib.Core.Bool.{Bool, true, false, not, cond, ◌&&◌}
+use mathlib.Core.Bool.{Bool, true, false, cond, and-false}
 use mathlib.Core.List.{List, [], ◌∷◌}
+use lib.Dec.{eqb}
 use lib.ListN.{length, get_or, take, drop, set}
 use lib.Seq.{sets, set-get_or, get_or-set_other}
-use borrow.Author.Tests.{eqb-true, not-false}
+use borrow.Author.Tests.{eqb-true}
 use Rattle.base.specs.Lists.{bytes_at}
-use Rattle.base.proofs.Lists.{and_right, tabulate-same}
+use Rattle.base.proofs.Lists.{tabulate-same}
 use Rattle.base.proofs.Stores.{length_bytes, bytes_same, take_bytes, bytes_sets_out}
 use Rattle.meaning.specs.declared.Operand.{Operand}
 use Rattle.meaning.specs.declared.Entry.{Entry}
-use Rattle.meaning.specs.declared.Outcome.{Outcome}
 use Rattle.meaning.specs.declared.Form.TheVariants.{Table}
 use Rattle.meaning.specs.Sizes.{max_variables, max_clocks, time_width, little_endian_value}
-use Rattle.meaning.specs.Kinds.{MAINTAIN, number_of, condition_allowed}
+use Rattle.meaning.specs.declared.kinds.Kind.{Kind}
+use Rattle.meaning.specs.declared.kinds.Kind.TheVariants.{Maintain as MAINTAIN}
+use Rattle.meaning.specs.Kinds.{kind_of, number_of, known, condition_allowed}
 use Rattle.meaning.specs.Program.{parts, variables, clocks, entry_at}
 use Rattle.meaning.specs.Table.{inside_of, is_table}
-use Rattle.meaning.specs.Conditions.{Situation, outcome, is_violated, violated}
+use Rattle.meaning.specs.Conditions.{Situation, violated}
 use Rattle.meaning.specs.Record.{estimate_place, started_place, starts_place, marks_place, record_length, time_at, estimate_in, started_in, starts_in, is_mark}
-use Rattle.meaning.specs.Cycle.{is_kind, breaks, checked_from, checked_marks, situation}
+use Rattle.meaning.specs.Cycle.{breaks, checked_from, checked_marks, situation}
 use Rattle.meaning.proofs.Entries.{read_allowed, condition_fits}
 use Rattle.meaning.proofs.Tables.{table_held}
+use Rattle.program_table.proofs.KindTests.{kind_byte, kind_byte_not}
 use Rattle.run_record.proofs.Marks.{mark_inside}
 use Rattle.run_offer.specs.CheckSteps.{judging, checked_part, skip_after, checked_rest}
 
@@ -46,42 +49,27 @@ module _ (t r s : List ℕ) (time : ℕ) (table : is_table t ≡ true) (same : (
       rw (e, f, g)
 
 -- One part's turn: by its mark and its kind it is no MAINTAIN that may break, or its condition decides
-module _ (sit : Situation) (e : Entry) (x y : Bool) where
-  unbroken : not (x && y) ≡ true → false ≡ (x && (y && violated sit e.operand))
-  unbroken h = go x y h
-    where
-      go : (a b : Bool) → not (a && b) ≡ true → false ≡ (a && (b && violated sit e.operand))
-      go true true k = cc
-      go true false k = refl
-      go false b k = refl
+module _ (t : List ℕ) (sit : Situation) (p m : ℕ) (b : Bool) (b-is : b ≡ is_mark m) where
+  pub breaks_unmarked : b ≡ false → false ≡ breaks t sit p m
+  breaks_unmarked h = rw (← b-is, h)
 
-  decided : not (x && y) ≡ false → violated sit e.operand ≡ (x && (y && violated sit e.operand))
-  decided h = go x y h
-    where
-      go : (a b : Bool) → not (a && b) ≡ false → violated sit e.operand ≡ (a && (b && violated sit e.operand))
-      go true true k = refl
-      go true false k = cc
-      go false b k = cc
+  module _ (kind : Kind) (kind-is : kind ≡ kind_of (entry_at Table t p).kind) where
+    pub breaks_other : (kind ≡ MAINTAIN → ⊥) → false ≡ breaks t sit p m
+    breaks_other h = rw (kind_byte_not MAINTAIN (entry_at Table t p).kind (λ e. h (kind-is ∙ e)), and-false)
 
-module _ (t : List ℕ) (sit : Situation) (p m : ℕ) (e : Entry) (x y : Bool) (e-is : e ≡ entry_at Table t p) (x-is : x ≡ is_mark m) (y-is : y ≡ is_kind MAINTAIN e) where
-  breaks_is : (x && (y && violated sit e.operand)) ≡ breaks t sit p m
-  breaks_is = rw (x-is, y-is) (ap (λ (a : Entry). is_mark m && (is_kind MAINTAIN a && violated sit a.operand)) e-is)
-
-  pub holds_out : not (x && y) ≡ true → false ≡ breaks t sit p m
-  holds_out h = unbroken sit e x y h ∙ breaks_is
-
-  pub breaks_if : (c : Outcome) (b : Bool) → not (x && y) ≡ false → c ≡ outcome sit e.operand → b ≡ is_violated c → b ≡ breaks t sit p m
-  breaks_if c b h c-is b-is =
-      let v : b ≡ violated sit e.operand = unfold violated in rw (b-is, c-is) in
-      v ∙ (decided sit e x y h ∙ breaks_is)
+    pub breaks_if : (e : Entry) (c : Bool) → b ≡ true → kind ≡ MAINTAIN → e ≡ entry_at Table t p → c ≡ violated sit e.operand → c ≡ breaks t sit p m
+    unfolding known
+    breaks_if e c marked h e-is c-is = rw (← b-is, marked, kind_byte MAINTAIN (entry_at Table t p).kind refl (sym kind-is ∙ h)) (c-is ∙ ap (λ (a : Entry). violated sit a.operand) e-is)
 
 -- the condition of a MAINTAIN of the table is allowed
-pub maintained : (t : List ℕ) (p : ℕ) (e : Entry) (x y : Bool) → is_table t ≡ true → p < parts t → e ≡ entry_at Table t p → y ≡ is_kind MAINTAIN e → not (x && y) ≡ false → condition_allowed (variables t) (clocks t) e.operand ≡ true
-unfolding number_of
-maintained t p e x y table here e-is y-is h = condition_fits (variables t) (clocks t) e (read_allowed t p e table here e-is) (inr (inl (eqb-true e.kind 6 (sym y-is ∙ and_right x y (not-false (x && y) h)))))
+pub maintained : (t : List ℕ) (p : ℕ) (kind : Kind) (e : Entry) → is_table t ≡ true → p < parts t → kind ≡ kind_of (entry_at Table t p).kind → kind ≡ MAINTAIN → e ≡ entry_at Table t p → condition_allowed (variables t) (clocks t) e.operand ≡ true
+unfolding known number_of
+maintained t p kind e table here kind-is h e-is =
+    let k : eqb e.kind 6 ≡ true = rw e-is (kind_byte MAINTAIN (entry_at Table t p).kind refl (sym kind-is ∙ h)) in
+    condition_fits (variables t) (clocks t) e (read_allowed t p e table here e-is) (inr (inl (eqb-true e.kind 6 k)))
 
 -- a condition is judged by the part of the record that holds the estimate
-pub judged_lent : (t r : List ℕ) (time v w : ℕ) (o : Operand) (c : Outcome) → is_table t ≡ true → record_length ≤ length r → v ≡ variables t → w ≡ v → c ≡ outcome (situation t r (take (estimate_place + w - estimate_place) (drop estimate_place r)) time) o → c ≡ outcome (judging t r time) o
+pub judged_lent : (t r : List ℕ) (time v w : ℕ) (o : Operand) (c : Bool) → is_table t ≡ true → record_length ≤ length r → v ≡ variables t → w ≡ v → c ≡ violated (situation t r (take (estimate_place + w - estimate_place) (drop estimate_place r)) time) o → c ≡ violated (judging t r time) o
 unfolding judging
 judged_lent t r time v w o c table long v-is w-is c-is =
     let n : estimate_place + w - estimate_place ≡ variables t = omega arith in
@@ -126,29 +114,6 @@ checked_end t r w time p skip n n-is h i =
 pub checked_start : (t r : List ℕ) (time : ℕ) → checked_rest t time r 0 0 ≡ sets r marks_place (checked_marks t r time)
 unfolding checked_rest judging
 checked_start t r time = rw sub-zero
-
--- a part's turn, by whether marks are to be dropped and whether it breaks
-module _ (t r : List ℕ) (time p skip : ℕ) where
-  pub skip_drops : (skip ≡ 0 → ⊥) → skip - 1 ≡ skip_after t (judging t r time) p (get_or r (marks_place + p) 0) skip
-  unfolding skip_after
-  skip_drops h = let k : skip ≡ suc (skip - 1) = omega arith in rw k (omega arith)
-
-  pub skip_begins : (b : Bool) (n : ℕ) → skip ≡ 0 → b ≡ breaks t (judging t r time) p (get_or r (marks_place + p) 0) → b ≡ true → n ≡ inside_of t p → n ≡ skip_after t (judging t r time) p (get_or r (marks_place + p) 0) skip
-  unfolding skip_after
-  skip_begins b n z b-is h n-is = rw (z, ← b-is, h, n-is)
-
-  pub skip_none : (b : Bool) → skip ≡ 0 → b ≡ breaks t (judging t r time) p (get_or r (marks_place + p) 0) → b ≡ false → 0 ≡ skip_after t (judging t r time) p (get_or r (marks_place + p) 0) skip
-  unfolding skip_after
-  skip_none b z b-is h = rw (z, ← b-is, h)
-
-module _ (r : List ℕ) (p skip : ℕ) where
-  pub mark_dropped : (s : List ℕ) (q : ℕ) → (skip ≡ 0 → ⊥) → q ≡ p → s ≡ set r (marks_place + q) 0 → s ≡ checked_part r p skip
-  unfolding checked_part
-  mark_dropped s q h q-is s-is = let k : skip ≡ suc (skip - 1) = omega arith in rw (k, s-is, q-is)
-
-  pub mark_stays : skip ≡ 0 → r ≡ checked_part r p skip
-  unfolding checked_part
-  mark_stays z = rw z
 
 -- the mark that is dropped stands in the record
 pub mark_dropping : (t r : List ℕ) (p q : ℕ) → is_table t ≡ true → record_length ≤ length r → p < parts t → q ≡ p → marks_place + q < length r

@@ -1,7 +1,7 @@
 -- A whole offer: why it is refused, and what stands in the record and in the goal buffer where it is not.
 use Prim.Native.Nat.{ℕ, ◌+◌, ◌<◌, ◌≤◌}
 use native.Mathlib.Omega.{arith}
-use mathlib.Core.Path.{◌≡◌, refl, sym, ap, ◌∙◌}
+use mathlib.Core.Path.{◌≡◌, refl, sym, ◌∙◌}
 use mathlib.Core.Logic.{inr}
 use mathlib.Core.Bool.{Bool, true, false, not}
 use mathlib.Core.List.{List, [], ◌∷◌, ◌++◌}
@@ -9,20 +9,19 @@ use lib.Dec.{eqb, leb}
 use lib.ListN.{length, get_or, set, length-set}
 use lib.Seq.{sets, length-sets, get_or-set_other}
 use borrow.Author.Tests.{leb-true, le-leb, lt-leb, ne_eqb}
+use Rattle.std.specs.Prelude.{Ok, Err}
 use Rattle.base.specs.Lists.{first_failing, bytes_at}
 use Rattle.base.proofs.Lists.{Passed, none_fails}
 use Rattle.base.proofs.Stores.{length_bytes, bytes_same, get_or-sets_out, bytes_sets}
 use Rattle.meaning.specs.declared.Refusal.{Refusal}
-use Rattle.meaning.specs.declared.Answer.{Answer}
-use Rattle.meaning.specs.declared.Answer.TheVariants.{Done, Refused}
 use Rattle.meaning.specs.Sizes.{max_variables, time_width, little_endian}
 use Rattle.meaning.specs.Program.{parts, variables}
 use Rattle.meaning.specs.Table.{is_table}
 use Rattle.meaning.specs.Record.{time_place, estimate_place, marks_place, record_length, phase_of, last_time, estimate_in, marks_in, offered}
 use Rattle.meaning.specs.Cycle.{leaves_from, goal_bytes, lowest_contested, situation, checked_from, offer_refusal, checked_marks, offered_goals, offered_name, offered_record, offered_into, goals_into}
-use Rattle.meaning.specs.Answers.{answered, refusal_number, answer_number, buffer_too_short, wrong_phase, time_before_last}
+use Rattle.meaning.specs.Answers.{answered, refusal_number, buffer_too_short, wrong_phase, time_before_last}
 use Rattle.meaning.specs.Operations.{Offered}
-use Rattle.meaning.proofs.Answers.{not_refused, is_refused, refused_before, left_open}
+use Rattle.meaning.proofs.Answers.{refusal_positive, refused_before, left_open}
 use Rattle.meaning.proofs.Tables.{table_held}
 use Rattle.meaning.proofs.Records.{length_checked, allowed_long}
 use Rattle.meaning.proofs.Entries.{length_goals}
@@ -36,33 +35,28 @@ module _ (t r : List ℕ) (time room : ℕ) where
   abbrev late_tests : List (ℕ × Bool)
   late_tests = (wrong_phase, not (eqb (phase_of r) offered)) ∷ (time_before_last, leb (last_time r) time) ∷ (buffer_too_short, leb (variables t) room) ∷ []
 
-  module _ (a : Answer) (a-is : answer_number a ≡ first_failing (run_tests t r)) where
-    pub refused_early : (why : Refusal) → a ≡ Refused why → answer_number a ≡ offer_refusal t r time room
+  pub refused_early : (why : Refusal) → refusal_number why ≡ first_failing (run_tests t r) → refusal_number why ≡ offer_refusal t r time room
+  unfolding offer_refusal
+  refused_early why why-is = refused_before (run_tests t r) late_tests refl (Err why) why-is why refl
+
+  module _ (goes : first_failing (run_tests t r) ≡ 0) (p : ℕ) (p-is : p ≡ phase_of r) where
+    then_late : offer_refusal t r time room ≡ first_failing late_tests
     unfolding offer_refusal
-    refused_early = refused_before (run_tests t r) late_tests refl a a-is
+    then_late = left_open (run_tests t r) late_tests refl (Ok tt) (sym goes) refl
 
-    -- the record of a run that goes on is long enough
-    pub goes_long : a ≡ Done → record_length ≤ length r
-    goes_long goes = allowed_long t r (none_fails (run_tests t r) refl (not_refused a (first_failing (run_tests t r)) a-is goes)).1.0
+    pub offered_already : p ≡ offered → wrong_phase ≡ offer_refusal t r time room
+    offered_already h = sym (then_late ∙ rw (← p-is, h))
 
-    module _ (goes : a ≡ Done) (p : ℕ) (p-is : p ≡ phase_of r) where
-      then_late : offer_refusal t r time room ≡ first_failing late_tests
-      unfolding offer_refusal
-      then_late = left_open (run_tests t r) late_tests refl a a-is goes
+    module _ (waits : p ≡ offered → ⊥) (l : ℕ) (l-is : l ≡ last_time r) where
+      pub too_early : time < l → time_before_last ≡ offer_refusal t r time room
+      too_early h = sym (then_late ∙ rw (← p-is, ne_eqb p offered waits, lt-leb (last_time r) time (rw (← l-is) h)))
 
-      pub offered_already : p ≡ offered → wrong_phase ≡ offer_refusal t r time room
-      offered_already h = sym (then_late ∙ rw (← p-is, h))
+      module _ (v w : ℕ) (v-is : v ≡ variables t) (w-is : w ≡ v) (in_time : l ≤ time) where
+        pub no_room : room < w → buffer_too_short ≡ offer_refusal t r time room
+        no_room h = sym (then_late ∙ rw (← p-is, ne_eqb p offered waits, le-leb (last_time r) time (rw (← l-is) in_time), lt-leb (variables t) room (omega arith)))
 
-      module _ (waits : p ≡ offered → ⊥) (l : ℕ) (l-is : l ≡ last_time r) where
-        pub too_early : time < l → time_before_last ≡ offer_refusal t r time room
-        too_early h = sym (then_late ∙ rw (← p-is, ne_eqb p offered waits, lt-leb (last_time r) time (rw (← l-is) h)))
-
-        module _ (v w : ℕ) (v-is : v ≡ variables t) (w-is : w ≡ v) (in_time : l ≤ time) where
-          pub no_room : room < w → buffer_too_short ≡ offer_refusal t r time room
-          no_room h = sym (then_late ∙ rw (← p-is, ne_eqb p offered waits, le-leb (last_time r) time (rw (← l-is) in_time), lt-leb (variables t) room (omega arith)))
-
-          pub none_refuses : w ≤ room → 0 ≡ offer_refusal t r time room
-          none_refuses h = sym (then_late ∙ rw (← p-is, ne_eqb p offered waits, le-leb (last_time r) time (rw (← l-is) in_time), le-leb (variables t) room (omega arith)))
+        pub none_refuses : w ≤ room → 0 ≡ offer_refusal t r time room
+        none_refuses h = sym (then_late ∙ rw (← p-is, ne_eqb p offered waits, le-leb (last_time r) time (rw (← l-is) in_time), le-leb (variables t) room (omega arith)))
 
 -- What an offer that is not refused finds
 module _ (t r : List ℕ) (time room : ℕ) (free : offer_refusal t r time room ≡ 0) where
@@ -122,14 +116,12 @@ module _ (t r s g h : List ℕ) (time : ℕ) (free : offer_refusal t r time (len
       n-is ∙ rw e
 
 -- The operation
-pub offer_refused : (t r g : List ℕ) (time : ℕ) (a : Answer) (why : Refusal) → answer_number a ≡ offer_refusal t r time (length g) → a ≡ Refused why → Offered t r time g (refusal_number why) r g
+pub offer_refused : (t r g : List ℕ) (time : ℕ) (why : Refusal) → refusal_number why ≡ offer_refusal t r time (length g) → Offered t r time g (refusal_number why) r g
 unfolding offered_into goals_into
-offer_refused t r g time a why a-is told =
-    let e : refusal_number why ≡ offer_refusal t r time (length g) = ap answer_number (sym told) ∙ a-is in
-    let n : offer_refusal t r time (length g) ≡ 0 → ⊥ = is_refused a why (offer_refusal t r time (length g)) a-is told in
-    let z : eqb (offer_refusal t r time (length g)) 0 ≡ false = ne_eqb (offer_refusal t r time (length g)) 0 n in
+offer_refused t r g time why why-is =
+    let z : eqb (offer_refusal t r time (length g)) 0 ≡ false = ne_eqb (offer_refusal t r time (length g)) 0 (λ n. refusal_positive why (why-is ∙ n)) in
     record {
-      answer_is = rw z e;
+      answer_is = rw z why-is;
       record_is = rw z;
       goals_are = rw z;
     }

@@ -1,25 +1,20 @@
--- A time is made of the four bytes where it stands, and stored as them.
-use Prim.Native.Nat.{ℕ, suc, ◌+◌, ◌*◌, ◌/◌, ◌%◌}
+-- A time is stored as the four bytes that it is made of.
+use Prim.Native.Nat.{ℕ, ◌+◌, ◌-◌, ◌≤◌}
 use native.Mathlib.Omega.{arith}
-use mathlib.Core.Path.{◌≡◌, ◌∙◌}
-use mathlib.Core.List.{List}
-use lib.ListN.{get_or, set}
-use lib.Seq.{sets}
-use Rattle.meaning.specs.Sizes.{time_width, little_endian, byte_values}
-use Rattle.meaning.specs.Record.{time_at}
+use mathlib.Core.Path.{◌≡◌, sym}
+use Rattle.std.proofs.Math.Nat.{div-div-eq-div-mul}
+use mathlib.Core.List.{List, append_assoc}
+use lib.ListN.{length, take, drop}
+use lib.Seq.{sets, sets-eq, drop-drop}
+use borrow.Rule.Slice.PartMut.{put_mid}
+use Rattle.std.specs.Int.{to_le_bytes, w32}
+use Rattle.meaning.specs.Sizes.{time_width, little_endian}
 
--- read
-pub time_made : (r : List ℕ) (i x : ℕ) → x ≡ get_or r i 0 + byte_values * (get_or r (i + 1) 0 + byte_values * (get_or r (i + 2) 0 + byte_values * get_or r (i + 3) 0)) → x ≡ time_at r i
-time_made r i x x-is =
-    let u : i + 1 ≡ suc i = omega arith in
-    let v : i + 2 ≡ suc (suc i) = omega arith in
-    let w : i + 3 ≡ suc (suc (suc i)) = omega arith in
-    x-is ∙ rw (u, v, w)
+-- the four bytes that std gives are those of the definition
+pub time_bytes : (x : ℕ) → to_le_bytes w32 x ≡ little_endian time_width x
+time_bytes x = rw (div-div-eq-div-mul x 256 256, div-div-eq-div-mul x 65536 256)
 
--- stored
-pub time_stored : (r a b c d : List ℕ) (i x : ℕ) → a ≡ set r i (x % byte_values) → b ≡ set a (i + 1) (x / byte_values % byte_values) → c ≡ set b (i + 2) (x / byte_values / byte_values % byte_values) → d ≡ set c (i + 3) (x / byte_values / byte_values / byte_values % byte_values) → d ≡ sets r i (little_endian time_width x)
-time_stored r a b c d i x a-is b-is c-is d-is =
-    let u : i + 1 ≡ suc i = omega arith in
-    let v : i + 2 ≡ suc (suc i) = omega arith in
-    let w : i + 3 ≡ suc (suc (suc i)) = omega arith in
-    rw (d-is, c-is, b-is, a-is, u, v, w)
+pub time_stored : (r bytes : List ℕ) (i x : ℕ) → i + time_width ≤ length r → bytes ≡ little_endian time_width x → put_mid i (i + time_width - i) r bytes ≡ sets r i (little_endian time_width x)
+time_stored r bytes i x inside bytes-is =
+    let w : i + time_width - i ≡ time_width = omega arith in
+    rw (w, bytes-is, drop-drop time_width i r, ← (append_assoc (take i r) (little_endian time_width x) (drop (i + time_width) r))) (sym (sets-eq (little_endian time_width x) r i inside))

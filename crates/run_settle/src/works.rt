@@ -1,57 +1,77 @@
 // Whether a leaf or a deciding CHOICE is marked: what refusal 15 asks of the marks after a settling.
-ghost use Rattle.std.specs.Prelude.{◌≡◌, true, ◌<◌, ◌≤◌, length, get_or};
+ghost use Rattle.std.specs.Prelude.{◌≡◌, ◌<◌, ◌≤◌, length, get_or};
 ghost use Rattle.base.specs.Lists.{bytes_at};
 ghost use Rattle.meaning.specs.Program.{parts};
-ghost use Rattle.meaning.specs.Table.{is_table};
 ghost use Rattle.meaning.specs.Cycle.{works_from};
-ghost use Rattle.run_settle.specs.Deciding.{pending_after, shows};
+ghost use Rattle.run_settle.specs.Deciding.{leaf, passed, pending_after, shows};
 
-use meaning::kinds::{CHOICE, GOAL, START, WAIT};
+use meaning::Number;
+use meaning::kinds::Kind;
 use meaning::sizes::UNMARKED;
-use meaning::{Form, Number, index};
-use program_part::layout::{end_at, parts};
-use program_walk::walker::entry_at;
+use program_table::table::Table;
 
-// Whether part p is marked and shows that a leaf or a deciding CHOICE is: p is a leaf itself, or it comes
-// after the end of the CHOICE that ends at `pending`, in which then nothing is marked.
-fn shows(t: &[u8], m: &[u8], p: Number, pending: Number) -> bool
-    requires t_value { is_table t.now ≡ true }
-    requires t_in_bounds { parts t.now ≤ length m.now }
-    requires p_bound { p < parts t.now }
-    ensures { result ≡ shows t.now p (get_or m.now p 0) pending }
+#[tactic(auto, unfolding(crate::specs::Deciding::leaf))]
+fn is_leaf(kind: Kind) -> bool
+    ensures { result ≡ leaf kind }
 {
-    let part = entry_at(t, Form::Table, p);
-    let kind = part.kind;
-    let leaf = (kind == GOAL) | ((kind == START) | (kind == WAIT));
-    (m[index(p)] != UNMARKED) & (leaf | ((pending != 0) & (pending <= p)))
+    matches!(kind, Kind::Goal | Kind::Start | Kind::Wait)
 }
 
-// The end of the CHOICE that is still without a marked part inside after part p, 0 for none.
-fn pending_after(t: &[u8], m: &[u8], p: Number, pending: Number) -> Number
-    requires t_value { is_table t.now ≡ true }
-    requires t_in_bounds { parts t.now ≤ length m.now }
-    requires p_bound { p < parts t.now }
-    ensures { result ≡ pending_after t.now p (get_or m.now p 0) pending }
+// Whether part p comes after the end of the pending CHOICE.
+fn has_passed(pending: Option<Number>, p: Number) -> bool
+    ensures { result ≡ passed pending p }
 {
-    if m[index(p)] == UNMARKED {
-        return pending;
+    pending.is_some_and(|end| end <= p)
+}
+
+// The marks that a settling leaves the parts of a table.
+#[derive(Clone, Copy)]
+pub(crate) struct Marks<'a> {
+    pub table: Table<'a>,
+    pub bytes: &'a [u8],
+    pub ghost long: { parts table.bytes.now ≤ length bytes.now },
+}
+
+impl<'a> Marks<'a> {
+    // Whether part p is marked and shows that a leaf or a deciding CHOICE is: p is a leaf itself, or it comes
+    // after the end of the pending CHOICE, in which then nothing is marked.
+    #[tactic(auto, using(crate::proofs::Deciding::shows_unmarked, crate::proofs::Deciding::shows_leaf, crate::proofs::Deciding::shows_passed))]
+    fn shows(self, p: Number, pending: Option<Number>) -> bool
+        requires { p < parts self.table.bytes.now }
+        ensures { result ≡ shows self.entry.table.bytes.now p (get_or self.entry.bytes.now p 0) pending }
+    {
+        self.bytes[usize::from(p)] != UNMARKED
+            && (is_leaf(self.table.kind(p)) || has_passed(pending, p))
     }
-    let part = entry_at(t, Form::Table, p);
-    if part.kind == CHOICE { end_at(t, p) } else { 0 }
-}
 
-// Whether a leaf or a deciding CHOICE is marked.
-pub(crate) fn works(t: &[u8], m: &[u8]) -> bool
-    requires t_value { is_table t.now ≡ true }
-    requires t_in_bounds { parts t.now ≤ length m.now }
-    ensures { result ≡ works_from t.now 0 (bytes_at m.now 0 (parts t.now)) }
-{
-    let mut pending: Number = 0;
-    for p in 0..parts(t) {
-        if shows(t, m, p, pending) {
-            return true;
+    // The end of the CHOICE that is still without a marked part inside after part p.
+    #[tactic(auto, using(crate::proofs::Deciding::pending_kept, crate::proofs::Deciding::pending_choice, crate::proofs::Deciding::pending_none))]
+    fn pending_after(self, p: Number, pending: Option<Number>) -> Option<Number>
+        requires { p < parts self.table.bytes.now }
+        ensures { result ≡ pending_after self.entry.table.bytes.now p (get_or self.entry.bytes.now p 0) pending }
+    {
+        if self.bytes[usize::from(p)] == UNMARKED {
+            return pending;
         }
-        pending = pending_after(t, m, p, pending);
+        if self.table.kind(p) == Kind::Choice {
+            Some(self.table.end(p))
+        } else {
+            None
+        }
     }
-    pending != 0
+
+    // Whether a leaf or a deciding CHOICE is marked.
+    #[tactic(auto, using(crate::proofs::Deciding::works_begin, crate::proofs::Deciding::works_shown, crate::proofs::Deciding::works_next, crate::proofs::Deciding::works_end))]
+    pub(crate) fn works(self) -> bool
+        ensures { result ≡ works_from self.entry.table.bytes.now 0 (bytes_at self.entry.bytes.now 0 (parts self.entry.table.bytes.now)) }
+    {
+        let mut pending: Option<Number> = None;
+        for p in 0..self.table.parts() {
+            if self.shows(p, pending) {
+                return true;
+            }
+            pending = self.pending_after(p, pending);
+        }
+        pending.is_some()
+    }
 }

@@ -16,7 +16,8 @@ use Rattle.base.proofs.Facts.{both, either, at_most, equal, by_number, unless, a
 use Rattle.base.proofs.Lists.{and_left, and_right}
 use Rattle.base.proofs.Stores.{length_bytes, get_or_bytes}
 use Rattle.meaning.specs.Sizes.{max_parts, max_variables, max_clocks, max_value, unknown_value, time_width, no_part}
-use Rattle.meaning.specs.Kinds.{Kind, UNKNOWN, GOAL, START, WAIT, SEQ, PAR, MAINTAIN, CHOICE, REPEAT}
+use Rattle.meaning.specs.declared.kinds.Kind.{Kind}
+use Rattle.meaning.specs.declared.kinds.Kind.TheVariants.{Unknown as UNKNOWN, Goal as GOAL, Start as START, Wait as WAIT, Seq as SEQ, Par as PAR, Maintain as MAINTAIN, Choice as CHOICE, Repeat as REPEAT}
 use Rattle.meaning.specs.Program.{parts, variables, clocks}
 use Rattle.meaning.specs.Table.{kind_at, parent_at, end_at, inside_of, is_table}
 use Rattle.meaning.specs.Record.{estimate_place, started_place, starts_place, marks_place, record_length, phase_of, last_time, estimate_in, started_in, starts_in, marks_in, offered, finished, is_mark, is_zero, rest_zero, estimate_byte_allowed, values_allowed, clock_allowed, clocks_allowed, marked_children, children_allowed, part_allowed, parts_allowed, root_allowed, record_allowed}

@@ -12,7 +12,7 @@ use Rattle.base.specs.Lists.{any}
 use Rattle.base.proofs.Lists.{and_left, and_right}
 use Rattle.meaning.specs.declared.Entry.{Entry}
 use Rattle.meaning.specs.declared.Form.TheVariants.{Table}
-use Rattle.meaning.specs.Kinds.{START}
+use Rattle.meaning.specs.declared.kinds.Kind.TheVariants.{Start as START}
 use Rattle.meaning.specs.Program.{clocks, entry_at}
 use Rattle.meaning.specs.Table.{operand_of}
 use Rattle.meaning.specs.Record.{last_time, started_in, starts_in, marks_in}

@@ -16,7 +16,9 @@ use Rattle.meaning.specs.declared.Operand.{Operand}
 use Rattle.meaning.specs.declared.Outcome.{Outcome}
 use Rattle.meaning.specs.declared.Outcome.TheVariants.{Satisfied, Violated, Open}
 use Rattle.meaning.specs.Sizes.{unknown_value}
-use Rattle.meaning.specs.Kinds.{Test, UNTESTED, EQUALS, DIFFERS, AT-LEAST, BELOW, test_of, value, test_allowed, condition_allowed}
+use Rattle.meaning.specs.declared.kinds.Test.{Test}
+use Rattle.meaning.specs.declared.kinds.Test.TheVariants.{Untested as UNTESTED, Equals as EQUALS, Differs as DIFFERS, AtLeast as AT-LEAST, Below as BELOW}
+use Rattle.meaning.specs.Kinds.{test_of, value, test_allowed, condition_allowed}
 use Rattle.meaning.specs.Program.{clocks}
 use Rattle.meaning.specs.Conditions.{Situation, estimate_of, is_known, is_started, reading, decided, open_unless, tested, is_satisfied, is_violated, outcome, satisfied, violated}
 use Rattle.meaning.specs.Record.{last_time, estimate_in, started_in, started_place, record_allowed}

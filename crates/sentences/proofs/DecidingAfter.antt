@@ -9,7 +9,7 @@ use mathlib.Core.List.{List}
 use lib.ListN.{length}
 use Rattle.base.proofs.Stores.{length_bytes}
 use Rattle.meaning.specs.Sizes.{no_part}
-use Rattle.meaning.specs.Kinds.{CHOICE}
+use Rattle.meaning.specs.declared.kinds.Kind.TheVariants.{Choice as CHOICE}
 use Rattle.meaning.specs.Program.{parts}
 use Rattle.meaning.specs.Table.{kind_at, operand_of, end_at, parent_at, next_at, Inside, is_table}
 use Rattle.meaning.specs.Conditions.{Situation, satisfied}

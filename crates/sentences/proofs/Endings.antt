@@ -9,7 +9,9 @@ use lib.ListN.{length, get_or}
 use Rattle.base.proofs.Lists.{both_true}
 use Rattle.meaning.specs.declared.Entry.{Entry}
 use Rattle.meaning.specs.declared.Form.TheVariants.{Table}
-use Rattle.meaning.specs.Kinds.{Kind, GOAL, START, WAIT, CHOICE, number_of}
+use Rattle.meaning.specs.declared.kinds.Kind.{Kind}
+use Rattle.meaning.specs.declared.kinds.Kind.TheVariants.{Goal as GOAL, Start as START, Wait as WAIT, Choice as CHOICE}
+use Rattle.meaning.specs.Kinds.{number_of}
 use Rattle.meaning.specs.Tree.{Part, goal, start, wait, seq, par, maintain, choice, repeat}
 use Rattle.meaning.specs.Program.{parts, entry_at}
 use Rattle.meaning.specs.Table.{kind_at, is_table}

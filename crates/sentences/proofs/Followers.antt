@@ -6,7 +6,9 @@ use mathlib.Core.Bool.{Bool, true, false, false≢true}
 use mathlib.Core.List.{List, [], ◌∷◌, map}
 use Rattle.base.specs.Lists.{sum, nonempty}
 use Rattle.meaning.specs.Sizes.{no_part}
-use Rattle.meaning.specs.Kinds.{Kind, UNKNOWN, GOAL, START, WAIT, SEQ, PAR, MAINTAIN, CHOICE, REPEAT, number_of}
+use Rattle.meaning.specs.declared.kinds.Kind.{Kind}
+use Rattle.meaning.specs.declared.kinds.Kind.TheVariants.{Unknown as UNKNOWN, Goal as GOAL, Start as START, Wait as WAIT, Seq as SEQ, Par as PAR, Maintain as MAINTAIN, Choice as CHOICE, Repeat as REPEAT}
+use Rattle.meaning.specs.Kinds.{number_of}
 use Rattle.meaning.specs.Tree.{Part, goal, start, wait, seq, par, maintain, choice, repeat, kind, size}
 use Rattle.meaning.specs.Program.{parts}
 use Rattle.meaning.specs.Table.{next_of, block, end_at, parent_at, next_at, kind_at, Inside, is_table}

@@ -14,7 +14,8 @@ use Rattle.base.proofs.Stores.{length_bytes}
 use Rattle.meaning.specs.declared.Entry.{Entry}
 use Rattle.meaning.specs.declared.Form.TheVariants.{Table}
 use Rattle.meaning.specs.Sizes.{max_value}
-use Rattle.meaning.specs.Kinds.{GOAL, value}
+use Rattle.meaning.specs.declared.kinds.Kind.TheVariants.{Goal as GOAL}
+use Rattle.meaning.specs.Kinds.{value}
 use Rattle.meaning.specs.Program.{parts, variables, clocks, entry_at}
 use Rattle.meaning.specs.Table.{operand_of, is_table}
 use Rattle.meaning.specs.Record.{marks_place, estimate_in, marks_in}

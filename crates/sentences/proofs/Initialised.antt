@@ -11,7 +11,8 @@ use lib.Seq.{drop-append_seam}
 use borrow.Author.Tests.{eqb-true, eq-eqb}
 use Rattle.base.specs.Lists.{flag}
 use Rattle.base.proofs.Lists.{and_left, and_right}
-use Rattle.meaning.specs.Kinds.{Kind, UNKNOWN, GOAL, START, WAIT, SEQ, PAR, MAINTAIN, CHOICE, REPEAT}
+use Rattle.meaning.specs.declared.kinds.Kind.{Kind}
+use Rattle.meaning.specs.declared.kinds.Kind.TheVariants.{Unknown as UNKNOWN, Goal as GOAL, Start as START, Wait as WAIT, Seq as SEQ, Par as PAR, Maintain as MAINTAIN, Choice as CHOICE, Repeat as REPEAT}
 use Rattle.meaning.specs.Program.{parts, clocks}
 use Rattle.meaning.specs.Table.{kind_at, end_at, parent_at, Inside, inside_of, is_table}
 use Rattle.meaning.specs.Record.{record_length, waiting, is_mark, record_bytes}

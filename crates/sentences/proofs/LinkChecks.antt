@@ -15,7 +15,8 @@ use Rattle.base.proofs.Facts.{both, equal, all_below}
 use Rattle.meaning.specs.declared.Entry.{Entry}
 use Rattle.meaning.specs.declared.Form.TheVariants.{Table}
 use Rattle.meaning.specs.Sizes.{no_part, length_of}
-use Rattle.meaning.specs.Kinds.{Kind, kind_of, arity}
+use Rattle.meaning.specs.declared.kinds.Kind.{Kind}
+use Rattle.meaning.specs.Kinds.{kind_of, arity}
 use Rattle.meaning.specs.Tree.{Part, kind, children, size}
 use Rattle.meaning.specs.Program.{parts, variables, clocks, entry_at, arity_of, program_refusal}
 use Rattle.meaning.specs.Table.{next_of, block, table_of, end_at, parent_at, next_at, kind_at, is_table}

@@ -16,7 +16,9 @@ use Rattle.base.proofs.Stores.{bytes_all, bytes_append}
 use Rattle.meaning.specs.declared.Form.TheVariants.{File, Table}
 use Rattle.meaning.specs.declared.Entry.{Entry}
 use Rattle.meaning.specs.Sizes.{no_part, header_length, row_length, length_of}
-use Rattle.meaning.specs.Kinds.{Kind, SEQ, REPEAT, kind_of, arity}
+use Rattle.meaning.specs.declared.kinds.Kind.{Kind}
+use Rattle.meaning.specs.declared.kinds.Kind.TheVariants.{Seq as SEQ, Repeat as REPEAT}
+use Rattle.meaning.specs.Kinds.{kind_of, arity}
 use Rattle.meaning.specs.Program.{parts, operand_bytes, entry_at}
 use Rattle.meaning.specs.Table.{operand_of, end_at, parent_at, next_at, compiled, file_in, is_table}
 use Rattle.meaning.proofs.Tables.{file_back, table_of_file, inside, Later}

@@ -12,7 +12,7 @@ use Rattle.base.specs.Lists.{any}
 use Rattle.base.proofs.Lists.{and_left, and_right, both_true}
 use Rattle.base.proofs.Stores.{get_or-sets_out}
 use Rattle.meaning.specs.Sizes.{no_part}
-use Rattle.meaning.specs.Kinds.{GOAL, START, WAIT, SEQ, PAR, MAINTAIN, CHOICE, REPEAT}
+use Rattle.meaning.specs.declared.kinds.Kind.TheVariants.{Goal as GOAL, Start as START, Wait as WAIT, Seq as SEQ, Par as PAR, Maintain as MAINTAIN, Choice as CHOICE, Repeat as REPEAT}
 use Rattle.meaning.specs.Program.{parts}
 use Rattle.meaning.specs.Table.{kind_at, operand_of, end_at, next_at, Inside, inside_of, is_table}
 use Rattle.meaning.specs.Conditions.{Situation, reached, satisfied}

@@ -17,7 +17,8 @@ use Rattle.base.proofs.Stores.{length_bytes, get_or_bytes}
 use Rattle.meaning.specs.declared.Entry.{Entry}
 use Rattle.meaning.specs.declared.Form.TheVariants.{Table}
 use Rattle.meaning.specs.Sizes.{time_limit}
-use Rattle.meaning.specs.Kinds.{MAINTAIN, kind_of, number_of}
+use Rattle.meaning.specs.declared.kinds.Kind.TheVariants.{Maintain as MAINTAIN}
+use Rattle.meaning.specs.Kinds.{kind_of, number_of}
 use Rattle.meaning.specs.Program.{parts, variables, entry_at}
 use Rattle.meaning.specs.Table.{kind_at, operand_of, end_at, Inside, is_table}
 use Rattle.meaning.specs.Conditions.{Situation, violated}

@@ -2,7 +2,8 @@
 use Rattle.std.specs.Prelude.{ℕ, ◌≤◌, ◌<◌, ◌≡◌, Bool, true, ◌⊎◌, List, length, get_or}
 use Rattle.meaning.specs.declared.Entry.{Entry}
 use Rattle.meaning.specs.declared.Form.TheVariants.{Table}
-use Rattle.meaning.specs.Kinds.{GOAL, START, CHOICE, value}
+use Rattle.meaning.specs.declared.kinds.Kind.TheVariants.{Goal as GOAL, Start as START, Choice as CHOICE}
+use Rattle.meaning.specs.Kinds.{value}
 use Rattle.meaning.specs.Program.{entry_at}
 use Rattle.meaning.specs.Table.{kind_at, operand_of, Inside}
 use Rattle.meaning.specs.Record.{started_in, is_mark}

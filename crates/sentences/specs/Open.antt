@@ -2,7 +2,7 @@
 use Rattle.std.specs.Prelude.{ℕ, suc, ◌≡◌, ◌≢◌, List, get_or}
 use Rattle.meaning.specs.declared.Outcome.TheVariants.{Open}
 use Rattle.meaning.specs.Sizes.{unknown_value}
-use Rattle.meaning.specs.Kinds.{GOAL, WAIT}
+use Rattle.meaning.specs.declared.kinds.Kind.TheVariants.{Goal as GOAL, Wait as WAIT}
 use Rattle.meaning.specs.Table.{kind_at, operand_of, end_at, Inside}
 use Rattle.meaning.specs.Conditions.{Situation, outcome}
 use Rattle.meaning.specs.Record.{last_time, estimate_in, marks_in}

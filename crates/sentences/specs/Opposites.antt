@@ -3,7 +3,9 @@ use Rattle.std.specs.Prelude.{ℕ, ◌+◌, ◌≤◌, ◌<◌, ◌≡◌, ◌�
 use Rattle.meaning.specs.declared.Operand.{Operand}
 use Rattle.meaning.specs.declared.Outcome.TheVariants.{Open}
 use Rattle.meaning.specs.Sizes.{unknown_value}
-use Rattle.meaning.specs.Kinds.{Test, UNTESTED, EQUALS, DIFFERS, AT-LEAST, BELOW, test_of, value}
+use Rattle.meaning.specs.declared.kinds.Test.{Test}
+use Rattle.meaning.specs.declared.kinds.Test.TheVariants.{Untested as UNTESTED, Equals as EQUALS, Differs as DIFFERS, AtLeast as AT-LEAST, Below as BELOW}
+use Rattle.meaning.specs.Kinds.{test_of, value}
 use Rattle.meaning.specs.Conditions.{Situation, estimate_of, is_known, is_started, reading, outcome, satisfied, violated}
 
 -- "its opposite (1 against 2, 3 against 4)"

@@ -3,7 +3,9 @@ use Rattle.std.specs.Prelude.{ℕ, ◌≤◌, ◌<◌, ◌≡◌, ◌↔◌, ◌
 use Rattle.base.specs.Lists.{sum, tabulate, flag, bytes_at}
 use Rattle.meaning.specs.declared.Form.TheVariants.{File, Table}
 use Rattle.meaning.specs.Sizes.{no_part, header_length, length_of}
-use Rattle.meaning.specs.Kinds.{Kind, SEQ, REPEAT, arity}
+use Rattle.meaning.specs.declared.kinds.Kind.{Kind}
+use Rattle.meaning.specs.declared.kinds.Kind.TheVariants.{Seq as SEQ, Repeat as REPEAT}
+use Rattle.meaning.specs.Kinds.{arity}
 use Rattle.meaning.specs.Program.{parts, entry_at, program_refusal}
 use Rattle.meaning.specs.Table.{kind_at, operand_of, end_at, parent_at, next_at, compiled, file_in, is_table}
 

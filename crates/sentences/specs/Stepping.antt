@@ -2,7 +2,7 @@
 use Rattle.std.specs.Prelude.{ℕ, suc, ◌≤◌, ◌<◌, ◌≡◌, Bool, true, false, cond, ◌↔◌, ◌≢◌, ◌⊎◌, List, length, get_or}
 use Rattle.meaning.specs.declared.Form.TheVariants.{Table}
 use Rattle.meaning.specs.Sizes.{max_value, no_part}
-use Rattle.meaning.specs.Kinds.{GOAL, START, WAIT, SEQ, PAR, MAINTAIN, REPEAT}
+use Rattle.meaning.specs.declared.kinds.Kind.TheVariants.{Goal as GOAL, Start as START, Wait as WAIT, Seq as SEQ, Par as PAR, Maintain as MAINTAIN, Repeat as REPEAT}
 use Rattle.meaning.specs.Program.{variables, clocks, entry_at}
 use Rattle.meaning.specs.Table.{kind_at, operand_of, end_at, next_at, Inside}
 use Rattle.meaning.specs.Conditions.{Situation, reached, satisfied, violated}

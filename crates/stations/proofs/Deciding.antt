@@ -10,7 +10,8 @@ use lib.ListN.{replicate}
 use Rattle.meaning.specs.declared.Form.TheVariants.{File}
 use Rattle.meaning.specs.declared.Transition.TheVariants.{Stays, Ends, Second}
 use Rattle.meaning.specs.declared.Outcome.TheVariants.{Satisfied, Open}
-use Rattle.meaning.specs.Kinds.{GOAL, SEQ, CHOICE, REPEAT, kind_of, number_of, test_of}
+use Rattle.meaning.specs.declared.kinds.Kind.TheVariants.{Goal as GOAL, Seq as SEQ, Choice as CHOICE, Repeat as REPEAT}
+use Rattle.meaning.specs.Kinds.{kind_of, number_of, test_of}
 use Rattle.meaning.specs.Tree.{Part, goal, start, wait, seq, par, choice, repeat, one, more}
 use Rattle.meaning.specs.Program.{tree_of}
 use Rattle.meaning.specs.Table.{operand_of, next_at, compiled}

@@ -10,7 +10,8 @@ use lib.ListN.{replicate}
 use Rattle.meaning.specs.declared.Form.TheVariants.{File}
 use Rattle.meaning.specs.declared.Transition.TheVariants.{Stays, Ends}
 use Rattle.meaning.specs.declared.Outcome.TheVariants.{Satisfied, Violated}
-use Rattle.meaning.specs.Kinds.{SEQ, MAINTAIN, kind_of, number_of, test_of}
+use Rattle.meaning.specs.declared.kinds.Kind.TheVariants.{Seq as SEQ, Maintain as MAINTAIN}
+use Rattle.meaning.specs.Kinds.{kind_of, number_of, test_of}
 use Rattle.meaning.specs.Tree.{Part, goal, start, wait, seq, maintain, one, more}
 use Rattle.meaning.specs.Program.{tree_of}
 use Rattle.meaning.specs.Table.{operand_of, next_at, compiled}

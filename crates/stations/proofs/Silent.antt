@@ -9,7 +9,7 @@ use mathlib.Core.List.{List, [], ◌∷◌}
 use Rattle.meaning.specs.declared.Transition.TheVariants.{Ends}
 use Rattle.meaning.specs.declared.Outcome.TheVariants.{Violated, Open}
 use Rattle.meaning.specs.Sizes.{unknown_value}
-use Rattle.meaning.specs.Kinds.{WAIT}
+use Rattle.meaning.specs.declared.kinds.Kind.TheVariants.{Wait as WAIT}
 use Rattle.meaning.specs.Table.{operand_of}
 use Rattle.meaning.specs.Conditions.{Situation, outcome}
 use Rattle.meaning.specs.Record.{last_time, estimate_in}

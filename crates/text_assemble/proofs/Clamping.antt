@@ -15,7 +15,11 @@ use Rattle.base.proofs.Stores.{sets_start}
 use Rattle.meaning.specs.declared.Operand.{Operand}
 use Rattle.meaning.specs.declared.Entry.{Entry}
 use Rattle.meaning.specs.Sizes.{byte_values, kind_length}
-use Rattle.meaning.specs.Kinds.{Kind, UNKNOWN, GOAL, START, WAIT, SEQ, PAR, MAINTAIN, CHOICE, REPEAT, kind_of, Test, UNTESTED, EQUALS, DIFFERS, AT-LEAST, BELOW, tests, test_of, test_allowed, condition_allowed, goal_allowed, start_allowed, count_allowed, empty_allowed, operand_allowed, arity}
+use Rattle.meaning.specs.declared.kinds.Kind.{Kind}
+use Rattle.meaning.specs.declared.kinds.Kind.TheVariants.{Unknown as UNKNOWN, Goal as GOAL, Start as START, Wait as WAIT, Seq as SEQ, Par as PAR, Maintain as MAINTAIN, Choice as CHOICE, Repeat as REPEAT}
+use Rattle.meaning.specs.declared.kinds.Test.{Test}
+use Rattle.meaning.specs.declared.kinds.Test.TheVariants.{Untested as UNTESTED, Equals as EQUALS, Differs as DIFFERS, AtLeast as AT-LEAST, Below as BELOW}
+use Rattle.meaning.specs.Kinds.{kind_of, tests, test_of, test_allowed, condition_allowed, goal_allowed, start_allowed, count_allowed, empty_allowed, operand_allowed, arity}
 use Rattle.meaning.specs.Tree.{Part, children, size}
 use Rattle.meaning.specs.Program.{entry_allowed, arity_of, preorder}
 use Rattle.meaning.proofs.Trees.{All, part_ind, entry_of, preorder_law, size_law}

@@ -1,33 +1,32 @@
 -- Assembling: one law for each place where the code gives its answer.
 use Prim.Native.Nat.{ℕ, ◌*◌, ◌≤◌, ◌<◌}
 use mathlib.Core.Path.{◌≡◌, refl, ap, sym, subst, ◌∙◌}
-use mathlib.Core.Bool.{Bool, true, false, cond, not}
+use mathlib.Core.Bool.{Bool, true, false, cond}
 use mathlib.Core.List.{List, [], ◌∷◌, ◌++◌, map}
 use mathlib.Core.Option.{none, some}
 use native.Mathlib.Omega.{arith}
 use lib.Dec.{eqb, leb}
 use lib.ListN.{length, take, drop}
 use lib.Seq.{sets, take_at, length-take-le}
-use borrow.Author.Tests.{le-leb, lt-leb, eq-eqb, ne_eqb, leb-true, not-true, not-false}
-use Rattle.base.specs.Lists.{all, first_failing, bytes_at}
+use borrow.Author.Tests.{le-leb, lt-leb, eq-eqb, ne_eqb, leb-true}
+use Rattle.base.specs.Lists.{all, first_failing}
 use Rattle.base.proofs.Lists.{and_left, and_right, fails_append}
-use Rattle.base.proofs.Stores.{sets_start, bytes_all}
-use Rattle.meaning.specs.declared.Answer.{Answer}
-use Rattle.meaning.specs.declared.Answer.TheVariants.{Done, Refused}
+use Rattle.base.proofs.Stores.{sets_start}
+use Rattle.std.specs.Prelude.{Result, Ok, Err, IsErrAnd}
 use Rattle.meaning.specs.declared.Refusal.{Refusal}
 use Rattle.meaning.specs.declared.Form.TheVariants.{File}
 use Rattle.meaning.specs.declared.Entry.{Entry}
 use Rattle.meaning.specs.Sizes.{max_parts, max_variables, max_clocks, length_of, no_part, header_length}
 use Rattle.meaning.specs.Tree.{size}
 use Rattle.meaning.specs.Program.{sizes_in_range, size_bytes, arrays, parts, variables, clocks, entries, entry_known, entry_allowed, sizes_allowed, preorder, file_of, program_refusal}
-use Rattle.meaning.specs.Answers.{answer_number, buffer_too_short, not_a_text, size_out_of_range, operand_not_allowed}
-use Rattle.meaning.proofs.Answers.{not_refused, refusal_positive}
+use Rattle.meaning.specs.Answers.{refusal_number, answer_number, buffer_too_short, not_a_text, size_out_of_range, operand_not_allowed}
+use Rattle.meaning.proofs.Answers.{refusal_positive}
 use Rattle.meaning.proofs.Files.{all_preorder, known_entry, parts_back, file_entries, length_arrays}
 use Rattle.meaning.proofs.Trees.{length_preorder}
 use Rattle.text_grammar.specs.Syntax.{Text}
 use Rattle.text_grammar.specs.Trees.{body_tree, text_file}
 use Rattle.text_grammar.specs.Texts.{max_text_length}
-use Rattle.text_grammar.specs.Tokens.{Token}
+use Rattle.text_grammar.specs.declared.tokens.Token.{Token}
 use Rattle.text_grammar.specs.Lexer.{tokens, tokens_from}
 use Rattle.text_grammar.specs.Parser.{Parsed, got, stopped, parse_text, whole, reading}
 use Rattle.text_grammar.specs.Assembling.{text_tests, assemble_tests, refusal_of, assemble_refusal, file_in, assembled_into, Assembled}
@@ -37,8 +36,8 @@ use Rattle.text_stops.proofs.Stops.{stop_accepted, stop_at_last}
 use Rattle.text_tokens.specs.First.{Skipped}
 use Rattle.text_parts.specs.Stored.{part_length, Stands}
 use Rattle.text_grammar.proofs.Accepted.{as_for_files}
-use Rattle.text_read.specs.declared.Reading.{Reading}
-use Rattle.text_read.specs.declared.Reading.TheVariants.{Program, Stops}
+use Rattle.text_read.specs.declared.Program.{Program}
+use Rattle.text_read.specs.declared.Stop.{Stop}
 use Rattle.text_read.specs.Reading.{ReadsText}
 use Rattle.text_assemble.specs.Packing.{packed_entries, packed_file, packed_refusal, Written}
 use Rattle.text_assemble.proofs.Arrays.{packed_length}
@@ -70,18 +69,18 @@ module _ (b out : List ℕ) (n : ℕ) (fits : n ≤ length b) where
   pub taken_long : n ≡ length (take n b)
   taken_long = sym taken
 
-  module _ (a : Answer) (e : answer_number a ≡ program_refusal File (take n b)) where
-    pub checked_refused : (r : Refusal) → a ≡ Refused r → Written (take n b) out (answer_number a) out
-    checked_refused r h = refused_first (take n b) out (answer_number a) (λ z. refusal_positive r (sym (ap answer_number h) ∙ z)) e
+  pub checked_refused : (r : Refusal) → refusal_number r ≡ program_refusal File (take n b) → (a : Result (Unit {0}) Refusal) → IsErrAnd a (λ x. x ≡ r) → Written (take n b) out (answer_number a) out
+  checked_refused r e (Ok x) w = absurd w
+  checked_refused r e (Err x) w = rw w (refused_first (take n b) out (refusal_number r) (refusal_positive r) e)
 
-    module _ (h : a ≡ Done) where
-      pub checked_short : length out < n → Written (take n b) out buffer_too_short out
-      checked_short l = short_after (take n b) out (not_refused _ _ e h) (omega (arith, taken))
+  module _ (h : 0 ≡ program_refusal File (take n b)) where
+    pub checked_short : length out < n → Written (take n b) out buffer_too_short out
+    checked_short l = short_after (take n b) out (sym h) (omega (arith, taken))
 
-      pub checked_done : (out' : List ℕ) → n ≤ length out → out' ≡ sets out 0 (bytes_at (take n b) 0 n) → Written (take n b) out 0 out'
-      checked_done out' l w =
-          done_after (take n b) out (not_refused _ _ e h) out' (omega (arith, taken))
-          (w ∙ ap (λ (k : ℕ). sets out 0 (bytes_at (take n b) 0 k)) (sym taken) ∙ ap (sets out 0) (bytes_all (take n b)))
+    pub checked_done : (out' : List ℕ) → n ≤ length out → out' ≡ take n b ++ drop n out → Written (take n b) out 0 out'
+    checked_done out' l w =
+        let stored = rw taken at (sets_start out (take n b) (omega (arith, taken))) in
+        done_after (take n b) out (sym h) out' (omega (arith, taken)) (w ∙ sym stored)
 
 -- `write_program`
 length_packed : (b : List ℕ) (n v k : ℕ) → length (packed_file b n v k) ≡ length_of File n
@@ -100,26 +99,36 @@ read_as : (t : List ℕ) → length t ≤ max_text_length → reading t ≡ whol
 unfolding reading
 read_as t h = rw (le-leb (length t) max_text_length h)
 
-not_whole : (t z : List ℕ) (r : Reading) (b : List ℕ) (o : Parsed Text) (p : ℕ) → ReadsText t z r b o → r ≡ Stops p → whole o ≡ none
+not_whole : (t z b : List ℕ) (s : Stop) (o : Parsed Text) → ReadsText t z (Err s) b o → whole o ≡ none
 unfolding ReadsText whole
-not_whole t z r b (got x rest) p d h = let i : Program d.parts x.variables x.clocks ≡ Stops p = cc in let w : ◌≡◌ {A = ℕ} 0 1 = cc in absurd (omega arith)
-not_whole t z r b (stopped rest) p d h = refl
+not_whole t z b s (got x rest) d = let i = d.answer_is in cc
+not_whole t z b s (stopped rest) d = refl
 
-record TextSeen (z b : List ℕ) (n v k : ℕ) (o : Parsed Text) : Type 0 where
+-- the numbers of a program
+abbrev of_program : (Program → ℕ) → Result Program Stop → ℕ
+of_program f (Ok x) = f x
+of_program f (Err s) = 0
+
+-- the place where a text stops
+abbrev place_in : Result Program Stop → ℕ
+place_in (Ok x) = 0
+place_in (Err s) = s.place
+
+record TextSeen (z b : List ℕ) (p : Program) (o : Parsed Text) : Type 0 where
   text : Text
   whole_is : whole o ≡ some text
-  variables_are : text.variables ≡ v
-  clocks_are : text.clocks ≡ k
-  stands : Stands z 0 b n (preorder (body_tree text.body))
+  variables_are : text.variables ≡ p.variables
+  clocks_are : text.clocks ≡ p.clocks
+  stands : Stands z 0 b p.parts (preorder (body_tree text.body))
 
-text_seen : (t z : List ℕ) (r : Reading) (b : List ℕ) (n v k : ℕ) (o : Parsed Text) → ReadsText t z r b o → r ≡ Program n v k → TextSeen z b n v k o
+text_seen : (t z b : List ℕ) (p : Program) (o : Parsed Text) → ReadsText t z (Ok p) b o → TextSeen z b p o
 unfolding ReadsText whole
-text_seen t z r b n v k (got x rest) d h =
-    let i : d.parts ≡ n = cc in
-    let j : x.variables ≡ v = cc in
-    let l : x.clocks ≡ k = cc in
-    record { text = x; whole_is = refl; variables_are = j; clocks_are = l; stands = subst (λ (m : ℕ). Stands z 0 b m (preorder (body_tree x.body))) i d.stands }
-text_seen t z r b n v k (stopped rest) d h = let i : Stops d.place ≡ Program n v k = cc in let w : ◌≡◌ {A = ℕ} 0 1 = cc in absurd (omega arith)
+text_seen t z b p (got x rest) d =
+    let i : p.parts ≡ d.parts = ap (of_program (λ y. y.parts)) d.answer_is in
+    let j : p.variables ≡ x.variables = ap (of_program (λ y. y.variables)) d.answer_is in
+    let l : p.clocks ≡ x.clocks = ap (of_program (λ y. y.clocks)) d.answer_is in
+    record { text = x; whole_is = refl; variables_are = sym j; clocks_are = sym l; stands = subst (λ (m : ℕ). Stands z 0 b m (preorder (body_tree x.body))) (sym i) d.stands }
+text_seen t z b p (stopped rest) d = let i = d.answer_is in cc
 
 -- the answers, by the reading
 module _ (t out : List ℕ) where
@@ -135,31 +144,31 @@ module _ (t out : List ℕ) where
   unfolding reading
   text_too_long h = no_reading (rw (lt-leb (length t) max_text_length h))
 
-  module _ (short : length t ≤ max_text_length) (z : List ℕ) (r : Reading) (b : List ℕ) (d : ReadsText t z r b (parse_text (tokens t))) where
-    pub text_not_read : (p : ℕ) → r ≡ Stops p → Assembled t out not_a_text out
-    text_not_read p h = no_reading (read_as t short ∙ not_whole t z r b (parse_text (tokens t)) p d h)
+  module _ (short : length t ≤ max_text_length) (z b : List ℕ) where
+    pub text_not_read : (s : Stop) → ReadsText t z (Err s) b (parse_text (tokens t)) → Assembled t out not_a_text out
+    text_not_read s d = no_reading (read_as t short ∙ not_whole t z b s (parse_text (tokens t)) d)
 
-    module _ (n v k : ℕ) (h : r ≡ Program n v k) where
-      abbrev s : TextSeen z b n v k (parse_text (tokens t))
-      s = text_seen t z r b n v k (parse_text (tokens t)) d h
+    module _ (p : Program) (d : ReadsText t z (Ok p) b (parse_text (tokens t))) where
+      abbrev s : TextSeen z b p (parse_text (tokens t))
+      s = text_seen t z b p (parse_text (tokens t)) d
 
       reading_is : reading t ≡ some s.text
       reading_is = read_as t short ∙ s.whole_is
 
-      size_is : size (body_tree s.text.body) ≡ n
+      size_is : size (body_tree s.text.body) ≡ p.parts
       size_is = sym (length_preorder (body_tree s.text.body)) ∙ omega (arith, s.stands.parts_are)
 
-      sizes_are : sizes_in_range (size (body_tree s.text.body)) s.text.variables s.text.clocks ≡ sizes_in_range n v k
+      sizes_are : sizes_in_range (size (body_tree s.text.body)) s.text.variables s.text.clocks ≡ sizes_in_range p.parts p.variables p.clocks
       sizes_are = rw (size_is, s.variables_are, s.clocks_are)
 
-      pub sizes_refused : (c : Bool) → c ≡ sizes_in_range n v k → not c ≡ true → Assembled t out size_out_of_range out
+      pub sizes_refused : (c : Bool) → c ≡ sizes_in_range p.parts p.variables p.clocks → c ≡ false → Assembled t out size_out_of_range out
       unfolding assemble_refusal refusal_of
-      sizes_refused c e w = answered_by size_out_of_range (λ x. omega arith) (rw (reading_is, sizes_are ∙ sym e ∙ not-true c w))
+      sizes_refused c e w = answered_by size_out_of_range (λ x. omega arith) (rw (reading_is, sizes_are ∙ sym e ∙ w))
 
 -- within the ranges
-pub sizes_small : (n v k : ℕ) (c : Bool) → c ≡ sizes_in_range n v k → not c ≡ false → (n ≤ max_parts) × (v ≤ max_variables) × (k ≤ max_clocks)
+pub sizes_small : (n v k : ℕ) (c : Bool) → c ≡ sizes_in_range n v k → c ≡ true → (n ≤ max_parts) × (v ≤ max_variables) × (k ≤ max_clocks)
 sizes_small n v k c e w =
-    let i = sym e ∙ not-false c w in
+    let i = sym e ∙ w in
     let p = and_right (leb 1 n) _ i in
     let q = and_right (leb n max_parts) _ p in
     let r = and_right (leb 1 v) _ q in
@@ -231,40 +240,39 @@ module _ (x : Text) (b : List ℕ) (n v k : ℕ) (vs : x.variables ≡ v) (ks : 
           (w.answer_is ∙ e, w.buffer_is ∙ rw (e, five))
 
 -- `assemble`, where the sizes are in their ranges
-pub assembled : (t out : List ℕ) (short : length t ≤ max_text_length) (z : List ℕ) (r : Reading) (b : List ℕ) (d : ReadsText t z r b (parse_text (tokens t))) (n v k : ℕ) (h : r ≡ Program n v k)
-    (c : Bool) → c ≡ sizes_in_range n v k → not c ≡ false → (a : ℕ) (out' : List ℕ) → Written (packed_file b n v k) out a out' → part_length * max_parts ≤ length z → Assembled t out a out'
+pub assembled : (t out : List ℕ) (short : length t ≤ max_text_length) (z b : List ℕ) (p : Program) (d : ReadsText t z (Ok p) b (parse_text (tokens t)))
+    (c : Bool) → c ≡ sizes_in_range p.parts p.variables p.clocks → c ≡ true → (a : ℕ) (out' : List ℕ) → Written (packed_file b p.parts p.variables p.clocks) out a out' → part_length * max_parts ≤ length z → Assembled t out a out'
 unfolding assemble_refusal refusal_of assembled_into file_in
-assembled t out short z r b d n v k h c e w a out' u fits =
-    let s = text_seen t z r b n v k (parse_text (tokens t)) d h in
+assembled t out short z b p d c e w a out' u fits =
+    let s = text_seen t z b p (parse_text (tokens t)) d in
     let x = s.text in
-    let small = sizes_small n v k c e w in
-    let ns = size_is t out short z r b d n v k h in
-    let es = packed_are z b n (preorder (body_tree x.body)) s.stands (omega (arith, small.0)) in
-    let range = sym e ∙ not-false c w in
-    let q = packed_as_text x b n v k s.variables_are s.clocks_are ns es range small out a out' u in
-    let f = refusal_is x b n v k s.variables_are s.clocks_are ns es range small (length out) in
-    record { answer_is = rw (reading_is t out short z r b d n v k h) (q.0 ∙ sym f); buffer_is = rw (reading_is t out short z r b d n v k h) (q.1 ∙ rw f) }
+    let small = sizes_small p.parts p.variables p.clocks c e w in
+    let ns = size_is t out short z b p d in
+    let es = packed_are z b p.parts (preorder (body_tree x.body)) s.stands (omega (arith, small.0)) in
+    let range = sym e ∙ w in
+    let q = packed_as_text x b p.parts p.variables p.clocks s.variables_are s.clocks_are ns es range small out a out' u in
+    let f = refusal_is x b p.parts p.variables p.clocks s.variables_are s.clocks_are ns es range small (length out) in
+    record { answer_is = rw (reading_is t out short z b p d) (q.0 ∙ sym f); buffer_is = rw (reading_is t out short z b p d) (q.1 ∙ rw f) }
 
 -- `stop_place`, by what was read
-module _ (t : List ℕ) (short : length t ≤ max_text_length) (z : List ℕ) (r : Reading) (b : List ℕ) where
-  read_to_end : (o : Parsed Text) → parse_text (tokens t) ≡ o → (n v k : ℕ) → ReadsText t z r b o → r ≡ Program n v k → length t ≡ stop_place t
+module _ (t : List ℕ) (short : length t ≤ max_text_length) (z b : List ℕ) where
+  pub stop_nowhere : (p : Program) → ReadsText t z (Ok p) b (parse_text (tokens t)) → length t ≡ stop_place t
   unfolding ReadsText
-  read_to_end (got x rest) e n v k d h = stop_accepted t short x rest e
-  read_to_end (stopped rest) e n v k d h = let i : Stops d.place ≡ Program n v k = cc in let w : ◌≡◌ {A = ℕ} 0 1 = cc in absurd (omega arith)
+  stop_nowhere p d = go (parse_text (tokens t)) refl d
+    where
+      go : (o : Parsed Text) → parse_text (tokens t) ≡ o → ReadsText t z (Ok p) b o → length t ≡ stop_place t
+      go (got x rest) e d = stop_accepted t short x rest e
+      go (stopped rest) e d = let i = d.answer_is in cc
 
-  -- i is the place of the token, or of the text's end, from p on
-  read_to_stop : (o : Parsed Text) → parse_text (tokens t) ≡ o → (p i : ℕ) → ReadsText t z r b o → r ≡ Stops p → Skipped t p i → i ≡ stop_place t
+  -- i is the place of the token, or of the text's end, from the stop on
+  pub stop_there : (s : Stop) (i : ℕ) → ReadsText t z (Err s) b (parse_text (tokens t)) → Skipped t s.place i → i ≡ stop_place t
   unfolding ReadsText
-  read_to_stop (got x rest) e p i d h s = let j : Program d.parts x.variables x.clocks ≡ Stops p = cc in let w : ◌≡◌ {A = ℕ} 0 1 = cc in absurd (omega arith)
-  read_to_stop (stopped rest) e p i d h s =
-      let j : d.place ≡ p = cc in
-      let left : tokens_from t i ≡ rest = s.same_tokens ∙ ap (tokens_from t) (sym j) ∙ d.rest_is in
-      place_reached t i (s.within (rw (← j) d.inside)) s.no_blank (s.uncut (rw (← j) d.uncut))
-      ∙ ap (λ (us : List Token). place_of_last t (length us)) left ∙ stop_at_last t short rest e
-
-  module _ (d : ReadsText t z r b (parse_text (tokens t))) where
-    pub stop_nowhere : (n v k : ℕ) → r ≡ Program n v k → length t ≡ stop_place t
-    stop_nowhere n v k h = read_to_end (parse_text (tokens t)) refl n v k d h
-
-    pub stop_there : (p i : ℕ) → r ≡ Stops p → Skipped t p i → i ≡ stop_place t
-    stop_there p i h s = read_to_stop (parse_text (tokens t)) refl p i d h s
+  stop_there s i d k = go (parse_text (tokens t)) refl d
+    where
+      go : (o : Parsed Text) → parse_text (tokens t) ≡ o → ReadsText t z (Err s) b o → i ≡ stop_place t
+      go (got x rest) e d = let j = d.answer_is in cc
+      go (stopped rest) e d =
+          let j : s.place ≡ d.place = ap place_in d.answer_is in
+          let left : tokens_from t i ≡ rest = k.same_tokens ∙ ap (tokens_from t) j ∙ d.rest_is in
+          place_reached t i (k.within (rw j d.inside)) k.no_blank (k.uncut (rw j d.uncut))
+          ∙ ap (λ (us : List Token). place_of_last t (length us)) left ∙ stop_at_last t short rest e

@@ -8,7 +8,7 @@ ghost use Rattle.meaning.specs.Program.{size_bytes, kind_byte, entry_operand};
 ghost use Rattle.text_parts.specs.Stored.{part_length};
 ghost use Rattle.text_assemble.specs.Packing.{packed_entries, packed_file};
 
-use base::{copy_inside, store, wide};
+use base::{copy_inside, store};
 use meaning::sizes::{CLOCKS_PLACE, HEADER, KIND, OPERAND, VARIABLES_PLACE};
 use text_parts::PART;
 
@@ -26,9 +26,9 @@ fn pack_kinds(parts: &[u8], n: u8, file: &mut [u8])
     requires n_in_bounds_2 { length_of File n ≤ length file.old }
     ensures { file.new ≡ sets file.old header_length (flat kind_byte (packed_entries parts.now n)) }
 {
-    for p in 0..wide(n) {
-        let kind = parts[PART * p];
-        store(file, HEADER + p, kind);
+    // By the part's number, which gives the places in both buffers.
+    for p in 0..usize::from(n) {
+        store(file, HEADER + p, parts[PART * p]);
     }
 }
 
@@ -37,12 +37,13 @@ fn pack_operands(parts: &[u8], n: u8, file: &mut [u8])
     requires n_in_bounds_2 { length_of File n ≤ length file.old }
     ensures { file.new ≡ sets file.old (header_length + n) (flat entry_operand (packed_entries parts.now n)) }
 {
-    for p in 0..wide(n) {
+    // By the part's number, as above.
+    for p in 0..usize::from(n) {
         copy_inside(
             parts,
             PART * p + KIND,
             file,
-            HEADER + wide(n) + OPERAND * p,
+            HEADER + usize::from(n) + OPERAND * p,
             OPERAND,
         );
     }

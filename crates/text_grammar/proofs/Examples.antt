@@ -10,7 +10,8 @@ use Rattle.meaning.specs.Program.{preorder, file_of}
 use Rattle.meaning.proofs.Computed.{◌gets◌, Holds, read}
 use Rattle.text_grammar.specs.Characters.{bytes, is_blank, is_digit, is_word_byte}
 use Rattle.text_grammar.specs.Tokens.{Mark, start_word, wait_word, maintain_word, repeat_word, if_word, then_word, else_word, equal_sign, differs_sign, at_least_sign, below_sign, semicolon, comma, opening, closing, colon, Token, mark, number, variable, clock, unknown, spelling, decimal_from, leading_zero, is_number, named_token, token_among, token_of}
-use Rattle.text_grammar.specs.Trees.{test_number, condition_operand, step_tree, sequence_tree, step_trees, body_tree, sequence_trees, text_file}
+use Rattle.meaning.specs.Kinds.{test_number}
+use Rattle.text_grammar.specs.Trees.{condition_operand, step_tree, sequence_tree, step_trees, body_tree, sequence_trees, text_file}
 use Rattle.text_grammar.specs.Lexer.{joins, end_run, begin_run, tokens_after, tokens}
 use Rattle.text_grammar.specs.Parser.{bind, on_mark, parse_number, parse_clock, parse_value, parse_condition, sequence_rest, body_rest, close_group, parse_branches, step_within, sequence_within, body_within, parse_body, end_text, parse_text, whole, reading}
 use Rattle.text_grammar.specs.Assembling.{refusal_of, assemble_refusal, file_in, assembled_into}

@@ -1,20 +1,35 @@
 -- The tokens of a text (document 02: its signs), and the bytes that each is spelled with.
-use Rattle.std.specs.Prelude.{ℕ, ◌+◌, ◌*◌, ◌-◌, ◌≡◌, Bool, true, false, cond, not, ◌&&◌, List, [], ◌∷◌, ◌++◌, eqb, leb}
+use Rattle.std.specs.Prelude.{ℕ, ◌+◌, ◌*◌, ◌-◌, ◌≡◌, Bool, true, false, cond, not, ◌&&◌, List, [], ◌∷◌, ◌++◌, eqb, leb, get_or, refl}
+use Rattle.std.proofs.Common.{sym, ◌∙◌, ap}
+use Rattle.std.proofs.lemmas.Bool.{eqb-true, eqb-false}
 use Prim.Native.Char.{code}
 use Rattle.base.specs.Lists.{all, nonempty, same}
 use Rattle.text_grammar.specs.Characters.{bytes, is_blank, is_digit, is_word_byte}
-
 -- the words, and the signs without a number
-pub data Mark : Type 0 where
-  start_word wait_word maintain_word repeat_word if_word then_word else_word : Mark
-  equal_sign differs_sign at_least_sign below_sign semicolon comma opening closing colon : Mark
-  deriving Discrete as mark-discrete
-
+pub use Rattle.text_grammar.specs.declared.tokens.Mark.{Mark}
+pub use Rattle.text_grammar.specs.declared.tokens.Mark.TheVariants.{StartWord as start_word, WaitWord as wait_word, MaintainWord as maintain_word, RepeatWord as repeat_word, IfWord as if_word, ThenWord as then_word, ElseWord as else_word, EqualSign as equal_sign, DiffersSign as differs_sign, AtLeastSign as at_least_sign, BelowSign as below_sign, Semicolon as semicolon, Comma as comma, Opening as opening, Closing as closing, Colon as colon}
 -- "`v0`, `c0`, `!=` and `>=` are one sign each". `unknown` is a run of bytes that is no sign: nothing is written with it
-pub data Token : Type 0 where
-  mark : Mark → Token
-  number variable clock : ℕ → Token
-  unknown : Token
+pub use Rattle.text_grammar.specs.declared.tokens.Token.{Token}
+pub use Rattle.text_grammar.specs.declared.tokens.Token.TheVariants.{Mark as mark, Number as number, Variable as variable, Clock as clock, Unknown as unknown}
+
+-- the places of the marks in their order, by which two are told apart
+abbrev pub mark_place : Mark → ℕ
+mark_place start_word = 0
+mark_place wait_word = 1
+mark_place maintain_word = 2
+mark_place repeat_word = 3
+mark_place if_word = 4
+mark_place then_word = 5
+mark_place else_word = 6
+mark_place equal_sign = 7
+mark_place differs_sign = 8
+mark_place at_least_sign = 9
+mark_place below_sign = 10
+mark_place semicolon = 11
+mark_place comma = 12
+mark_place opening = 13
+mark_place closing = 14
+mark_place colon = 15
 
 -- "Words are small letters"
 unfoldable pub spelling : Mark → List ℕ
@@ -54,6 +69,31 @@ marks =
     ∷ closing
     ∷ colon
     ∷ []
+
+pub mark_back : (m : Mark) → get_or marks (mark_place m) colon ≡ m
+mark_back start_word = refl
+mark_back wait_word = refl
+mark_back maintain_word = refl
+mark_back repeat_word = refl
+mark_back if_word = refl
+mark_back then_word = refl
+mark_back else_word = refl
+mark_back equal_sign = refl
+mark_back differs_sign = refl
+mark_back at_least_sign = refl
+mark_back below_sign = refl
+mark_back semicolon = refl
+mark_back comma = refl
+mark_back opening = refl
+mark_back closing = refl
+mark_back colon = refl
+
+abbrev pub mark-discrete : (m k : Mark) → Dec (m ≡ k)
+mark-discrete m k = go (eqb (mark_place m) (mark_place k)) refl
+  where
+    go : (b : Bool) → eqb (mark_place m) (mark_place k) ≡ b → Dec (m ≡ k)
+    go true e = yes (sym (mark_back m) ∙ ap (λ (p : ℕ). get_or marks p colon) (eqb-true (mark_place m) (mark_place k) e) ∙ mark_back k)
+    go false e = no (λ h. eqb-false (mark_place m) (mark_place k) e (ap mark_place h))
 
 -- "numbers in decimal up to 65535 without leading zeros"
 abbrev pub max_number : ℕ

@@ -2,18 +2,11 @@
 use Rattle.std.specs.Prelude.{ℕ, ◌/◌, ◌%◌, List}
 use Rattle.meaning.specs.declared.Operand.{Operand}
 use Rattle.meaning.specs.Sizes.{byte_values}
-use Rattle.meaning.specs.Kinds.{Test, UNTESTED, EQUALS, DIFFERS, AT-LEAST, BELOW}
+use Rattle.meaning.specs.declared.kinds.Test.TheVariants.{Equals as EQUALS, Differs as DIFFERS, AtLeast as AT-LEAST, Below as BELOW}
+use Rattle.meaning.specs.Kinds.{test_number}
 use Rattle.meaning.specs.Tree.{Part, Parts, goal, start, wait, seq, par, maintain, choice, repeat, one, more}
 use Rattle.meaning.specs.Program.{file_of}
 use Rattle.text_grammar.specs.Syntax.{Condition, variable_equals, variable_differs, clock_at_least, clock_below, Step, goal_step, start_step, wait_step, maintain_step, repeat_step, if_step, bracketed, Sequence, one_step, more_steps, Body, one_sequence, more_sequences, Text}
-
--- The number of a test: "1 (variable equals value), 2 (differs), 3 (clock reads at least value) or 4 (reads below value)"
-unfoldable pub test_number : Test → ℕ
-test_number UNTESTED = 0
-test_number EQUALS = 1
-test_number DIFFERS = 2
-test_number AT-LEAST = 3
-test_number BELOW = 4
 
 -- An operand by its b0, its variable or clock, and its value. The number of a variable or a clock stands in b1 as it is typed, also where no byte
 -- holds it: it is then not below V or K, and no file with that operand is accepted

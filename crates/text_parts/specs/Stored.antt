@@ -5,7 +5,9 @@ use Rattle.base.specs.Lists.{concat, flat, bytes_at}
 use Rattle.meaning.specs.declared.Operand.{Operand}
 use Rattle.meaning.specs.declared.Entry.{Entry}
 use Rattle.meaning.specs.Sizes.{byte_values, kind_length, operand_length}
-use Rattle.meaning.specs.Kinds.{Kind, SEQ, PAR, number_of}
+use Rattle.meaning.specs.declared.kinds.Kind.{Kind}
+use Rattle.meaning.specs.declared.kinds.Kind.TheVariants.{Seq as SEQ, Par as PAR}
+use Rattle.meaning.specs.Kinds.{number_of}
 use Rattle.meaning.specs.Tree.{count_operand}
 use Rattle.text_parts.specs.declared.Level.{Level}
 use Rattle.text_parts.specs.declared.Level.TheVariants.{Steps, Sequences}

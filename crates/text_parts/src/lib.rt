@@ -4,73 +4,62 @@
 
 ghost use Rattle.std.specs.Prelude.{◌≡◌, [], ◌∷◌, ◌*◌, ◌/◌, ◌%◌, ◌≤◌, length};
 ghost use Rattle.std.proofs.lemmas.List.Edits.{sets};
-ghost use Rattle.meaning.specs.Kinds.{number_of};
 ghost use Rattle.meaning.specs.Sizes.{byte_values};
 ghost use Rattle.text_grammar.specs.Texts.{max_text_length};
 ghost use Rattle.text_parts.specs.Stored.{part_length, clamped, moved_up, joining_kind, Joined};
 
-use base::put;
-use meaning::kinds::{PAR, SEQ};
-use meaning::sizes::{BYTE_VALUES, KIND, OPERAND};
+use base::{copy, put};
+use meaning::kinds::Kind;
+use meaning::sizes::{KIND, OPERAND};
 
 // How many bytes a part takes.
 pub const PART: usize = KIND + OPERAND;
 
-// How many values a byte has, and the largest, which stands for every number that no byte holds.
-const BYTE: u16 = BYTE_VALUES as u16;
-
-const MAX_BYTE: u8 = (BYTE - 1) as u8;
-
 // What is joined: steps, by `;`, or sequences, by `,`.
-#[derive(Clone, Copy)]
+#[derive(Clone, Copy, PartialEq, Eq)]
 pub enum Level {
     Steps,
     Sequences,
 }
 
-// A number as a byte.
+// A number as a byte: the largest byte stands for every number that no byte holds.
 pub fn clamped(x: u16) -> u8
     ensures { result ≡ clamped x }
 {
-    if x < BYTE {
-        return x as u8;
-    }
-    MAX_BYTE
+    u8::try_from(x).unwrap_or(u8::MAX)
 }
 
 // Stores part n.
 pub fn put_part(parts: &mut [u8], n: u16, kind: u8, b0: u8, b1: u8, value: u16)
     ensures { parts.new ≡ sets parts.old (part_length * n) (kind ∷ b0 ∷ b1 ∷ (value % byte_values) ∷ (value / byte_values) ∷ []) }
 {
-    let i = PART * (n as usize);
-    put(parts, i, kind);
-    put(parts, i + 1, b0);
-    put(parts, i + 2, b1);
-    put(parts, i + 3, (value % BYTE) as u8);
-    put(parts, i + 4, (value / BYTE) as u8);
+    let [low, high] = value.to_le_bytes();
+    // By `copy`, since what lies beyond the buffer's end is dropped.
+    let bytes = [kind, b0, b1, low, high];
+    copy(&bytes, 0, parts, PART * usize::from(n), PART);
 }
 
-// Moves the bytes from place `from` on and before place `to` up by the length of a part, the last first.
+// The kind of the part that joins.
+#[tactic(auto, unfolding(crate::specs::Stored::joining_kind))]
+fn joining_kind(level: Level) -> Kind
+    ensures { result ≡ joining_kind level }
+{
+    match level {
+        Level::Steps => Kind::Seq,
+        Level::Sequences => Kind::Par,
+    }
+}
+
+// Moves the bytes from place `from` on and before place `to` up by the length of a part, the last first. One by one:
+// `copy_within` needs `memmove`, and the header says that the library needs `memset` and `memcpy` alone.
 fn move_up(parts: &mut [u8], from: usize, to: usize)
     requires from_le_to { from ≤ to }
     requires to_in_bounds { to ≤ length parts.old }
     ensures { parts.new ≡ moved_up parts.old from to }
 {
-    let mut i = to;
-    while from < i {
-        i -= 1;
+    for i in (from..to).rev() {
         let b = parts[i];
         put(parts, i + PART, b);
-    }
-}
-
-// The kind of the part that joins.
-fn joining_kind(level: Level) -> u8
-    ensures { result ≡ number_of (joining_kind level) }
-{
-    match level {
-        Level::Steps => SEQ,
-        Level::Sequences => PAR,
     }
 }
 
@@ -104,6 +93,6 @@ pub fn join(parts: &mut [u8], n: u16, m: u16, level: Level, count: u16) -> u16
         return m;
     }
     make_room(parts, n, m);
-    put_part(parts, n, joining_kind(level), clamped(count), 0, 0);
+    put_part(parts, n, joining_kind(level).into(), clamped(count), 0, 0);
     m + 1
 }

@@ -10,15 +10,16 @@ use Rattle.base.proofs.Lists.{flat_append}
 use Rattle.base.proofs.Stores.{sets-append}
 use Rattle.meaning.specs.declared.Entry.{Entry}
 use Rattle.meaning.specs.Sizes.{byte_values}
-use Rattle.text_grammar.specs.Tokens.{Token}
+use Rattle.text_grammar.specs.declared.tokens.Token.{Token}
 use Rattle.text_grammar.specs.Trees.{operand_of}
 use Rattle.text_grammar.specs.Lexer.{tokens_from}
 use Rattle.text_grammar.specs.Parser.{Parsed, got, stopped, bind}
 use Rattle.text_parts.specs.Stored.{part_length, clamped, stored_entry, stored, Stands}
-use Rattle.text_read.specs.declared.Read.{Read}
-use Rattle.text_read.specs.declared.Read.TheVariants.{Ends, Stops}
+use Rattle.std.specs.Prelude.{Result, Ok, Err, IsErrAnd}
+use Rattle.text_read.specs.declared.Reached.{Reached}
+use Rattle.text_read.specs.declared.Stop.{Stop}
 use Rattle.text_read.specs.Entries.{alone}
-use Rattle.text_read.specs.Reading.{Does, Continues}
+use Rattle.text_read.specs.Reading.{Read, Ends, Stops, Does, Continues, place_of, parts_of, Room, Moves}
 
 length_stored : (es : List Entry) → length (stored es) ≡ part_length * length es
 length_stored [] = refl
@@ -45,6 +46,11 @@ pub stands_alone : (b : List ℕ) (n : ℕ) (b' : List ℕ) (kind b0 subject val
     → b' ≡ sets b (part_length * n) (kind ∷ b0 ∷ clamped subject ∷ (value % byte_values) ∷ (value / byte_values) ∷ []) → Stands b n b' (n + 1) (alone kind (operand_of b0 subject value))
 stands_alone b n b' kind b0 subject value h e = record { buffer_is = rw (clamped_byte b0 h) e; parts_are = refl }
 
+-- an error that is passed on
+pub err_again : {A : Type 0} (r : Result A Stop) (s : Stop) → IsErrAnd r (λ e. e ≡ s) → r ≡ Err s
+err_again (Ok x) s e = absurd e
+err_again (Err x) s e = ap Err e
+
 module _ (t : List ℕ) where
   -- what an answer says of the reading
   pub record Seen (b₀ : List ℕ) (n : ℕ) (b : List ℕ) (o : Parsed (List Entry)) (e m : ℕ) : Type 0 where
@@ -56,15 +62,16 @@ module _ (t : List ℕ) where
     pub ends_seen : (o : Parsed (List Entry)) (e m : ℕ) → Does t b₀ n r b o → r ≡ Ends e m → Seen b₀ n b o e m
     unfolding Does
     ends_seen (got es rest) e m d h =
-        let i : d.next ≡ e = cc in
-        let j : d.parts ≡ m = cc in
+        let k : Ends d.next d.parts ≡ Ends e m = sym d.answer_is ∙ h in
+        let i : d.next ≡ e = ap place_of k in
+        let j : d.parts ≡ m = ap parts_of k in
         record { es = es; reading_is = ap (got es) (sym d.rest_is ∙ ap (tokens_from t) i); stands = subst (λ (k : ℕ). Stands b₀ n b k es) j d.stands }
-    ends_seen (stopped rest) e m d h = let i : Stops d.place ≡ Ends e m = cc in let z : ◌≡◌ {A = ℕ} 0 1 = cc in absurd (omega arith)
+    ends_seen (stopped rest) e m d h = let i : Stops d.place ≡ Ends e m = sym d.answer_is ∙ h in cc
 
     pub stops_seen : (o : Parsed (List Entry)) (p : ℕ) → Does t b₀ n r b o → r ≡ Stops p → o ≡ stopped (tokens_from t p)
     unfolding Does
-    stops_seen (got es rest) p d h = let i : Ends d.next d.parts ≡ Stops p = cc in let z : ◌≡◌ {A = ℕ} 0 1 = cc in absurd (omega arith)
-    stops_seen (stopped rest) p d h = let i : d.place ≡ p = cc in ap stopped (sym d.rest_is ∙ ap (tokens_from t) i)
+    stops_seen (got es rest) p d h = let i : Ends d.next d.parts ≡ Stops p = sym d.answer_is ∙ h in cc
+    stops_seen (stopped rest) p d h = let k : Stops {A = Reached} d.place ≡ Stops p = sym d.answer_is ∙ h in let i : d.place ≡ p = ap place_of k in ap stopped (sym d.rest_is ∙ ap (tokens_from t) i)
 
   -- and the reading of the answer
   module _ (b₀ : List ℕ) (n : ℕ) (b : List ℕ) (o : Parsed (List Entry)) where
@@ -90,19 +97,27 @@ module _ (t : List ℕ) where
   does_append b₀ n b m es r b' (stopped rest) s d = d
 
   -- a reading that stopped stays so; one that ended goes on
-  module _ (f : List Entry → List Token → Parsed (List Entry)) (n : ℕ) (read : Read) (b : List ℕ) where
-    pub stays_stopped : (p : ℕ) (r : Read) (b' : List ℕ) → read ≡ Stops p → r ≡ Stops p → Continues f t n read b r b'
+  module _ (b₀ : List ℕ) (n : ℕ) (b : List ℕ) (o : Parsed (List Entry)) (f : List Entry → List Token → Parsed (List Entry)) (r : Read) (b' : List ℕ) where
+    pub stays : (s : Stop) → Does t b₀ n (Err s) b o → IsErrAnd r (λ e. e ≡ s) → Does t b₀ n r b' (bind o f)
     unfolding bind
-    stays_stopped p r b' h i = record {
-      continues = λ b₀ o d.
-          rw i (stops_made b₀ n b' (bind o f) p (ap (λ (x : Parsed (List Entry)). bind x f) (stops_seen b₀ n read b o p d h)));
-    }
+    stays s d e =
+        rw (err_again r s e) (stops_made b₀ n b' (bind o f) s.place (ap (λ (x : Parsed (List Entry)). bind x f) (stops_seen b₀ n (Err s) b o s.place d refl)))
 
-    pub goes_on_lem : (e m : ℕ) (r : Read) (b' : List ℕ) → read ≡ Ends e m
-        → ((b₀ : List ℕ) (es : List Entry) → Stands b₀ n b m es → Does t b₀ n r b' (f es (tokens_from t e))) → Continues f t n read b r b'
+    pub goes_on : (at : Reached) → Does t b₀ n (Ok at) b o → Continues f t n at b r b' → Does t b₀ n r b' (bind o f)
     unfolding bind
-    goes_on_lem e m r b' h g = record {
-      continues = λ b₀ o d.
-          let s = ends_seen b₀ n read b o e m d h in
-          rw s.reading_is (g b₀ s.es s.stands);
-    }
+    goes_on at d c =
+        let s = ends_seen b₀ n (Ok at) b o at.place at.parts d refl in
+        rw s.reading_is (c.continues b₀ s.es s.stands)
+
+  pub moves_err : (from n : ℕ) (r : Read) (s : Stop) → Moves t from n s.place 0 → IsErrAnd r (λ e. e ≡ s) → Moves t from n (place_of r) (parts_of r)
+  moves_err from n r s m e = rw (err_again r s e) m
+
+  -- what moved, and then moves on
+  pub moves_on : (from n : ℕ) (at : Reached) (e m : ℕ) → Moves t from n at.place at.parts → Moves t at.place at.parts e m → Moves t from n e m
+  moves_on from n at e m v w = record { onward = omega (arith, v.onward, w.onward); inside = w.inside; uncut = w.uncut; parts_fit = omega (arith, v.parts_fit, w.parts_fit) }
+
+  pub moved_err : (from n : ℕ) (at : Reached) (r : Read) (s : Stop) → Moves t from n at.place at.parts → Moves t at.place at.parts s.place 0 → IsErrAnd r (λ e. e ≡ s) → Moves t from n (place_of r) (parts_of r)
+  moved_err from n at r s v w e = moves_err from n r s (moves_on from n at s.place 0 v w) e
+
+  pub room_moved : (from n : ℕ) (at : Reached) → Room t from n → Moves t from n at.place at.parts → Room t at.place at.parts
+  room_moved from n at w v = record { short_enough = w.short_enough; inside = v.inside; uncut = v.uncut; parts_fit = omega (arith, w.parts_fit, v.parts_fit, v.onward) }

@@ -6,11 +6,16 @@ use lib.ListN.{length}
 use Rattle.base.specs.Lists.{flat}
 use Rattle.meaning.specs.declared.Operand.{Operand}
 use Rattle.meaning.specs.declared.Entry.{Entry}
-use Rattle.meaning.specs.Kinds.{WAIT, MAINTAIN, CHOICE, REPEAT, number_of}
+use Rattle.meaning.specs.declared.kinds.Kind.TheVariants.{Wait as WAIT, Maintain as MAINTAIN, Choice as CHOICE, Repeat as REPEAT}
+use Rattle.meaning.specs.Kinds.{number_of}
 use Rattle.meaning.specs.Tree.{Part, Parts, one, more, goal, start, wait, seq, par, maintain, choice, repeat, list_of, count, count_operand}
 use Rattle.meaning.specs.Program.{preorder}
 use Rattle.meaning.proofs.Trees.{preorder_law}
-use Rattle.text_grammar.specs.Tokens.{Mark, mark-discrete, start_word, wait_word, maintain_word, repeat_word, if_word, then_word, else_word, equal_sign, semicolon, comma, opening, closing, Token, mark, number, variable, clock, unknown}
+use Rattle.text_grammar.specs.declared.tokens.Mark.{Mark}
+use Rattle.text_grammar.specs.declared.tokens.Mark.TheVariants.{StartWord as start_word, WaitWord as wait_word, MaintainWord as maintain_word, RepeatWord as repeat_word, IfWord as if_word, ThenWord as then_word, ElseWord as else_word, EqualSign as equal_sign, Semicolon as semicolon, Comma as comma, Opening as opening, Closing as closing}
+use Rattle.text_grammar.specs.declared.tokens.Token.{Token}
+use Rattle.text_grammar.specs.declared.tokens.Token.TheVariants.{Mark as mark, Number as number, Variable as variable, Clock as clock, Unknown as unknown}
+use Rattle.text_grammar.specs.Tokens.{mark-discrete}
 use Rattle.text_grammar.specs.Syntax.{Condition, Step, if_step, one_step, more_steps, one_sequence, more_sequences}
 use Rattle.text_grammar.specs.Trees.{operand_of, condition_operand, step_tree, sequence_tree, step_trees, body_tree, sequence_trees}
 use Rattle.text_grammar.specs.Parser.{Parsed, got, stopped, bind, when, on_mark, expect, parse_number, parse_clock, parse_value, parse_condition, sequence_rest, body_rest, close_group, parse_branches, parse_step, parse_sequence, parse_body}

@@ -2,10 +2,13 @@
 use Rattle.std.specs.Prelude.{ℕ, List, [], ◌∷◌, ◌++◌, map}
 use Rattle.meaning.specs.declared.Operand.{Operand}
 use Rattle.meaning.specs.declared.Entry.{Entry}
-use Rattle.meaning.specs.Kinds.{GOAL, START, CHOICE, number_of}
+use Rattle.meaning.specs.declared.kinds.Kind.TheVariants.{Goal as GOAL, Start as START, Choice as CHOICE}
+use Rattle.meaning.specs.Kinds.{number_of}
 use Rattle.meaning.specs.Tree.{list_of}
 use Rattle.meaning.specs.Program.{preorder}
-use Rattle.text_grammar.specs.Tokens.{Mark, then_word, else_word, equal_sign, semicolon, comma, colon, Token}
+use Rattle.text_grammar.specs.declared.tokens.Mark.{Mark}
+use Rattle.text_grammar.specs.declared.tokens.Mark.TheVariants.{ThenWord as then_word, ElseWord as else_word, EqualSign as equal_sign, Semicolon as semicolon, Comma as comma, Colon as colon}
+use Rattle.text_grammar.specs.declared.tokens.Token.{Token}
 use Rattle.text_grammar.specs.Syntax.{Text}
 use Rattle.text_grammar.specs.Trees.{operand_of, condition_operand, step_tree, sequence_tree, step_trees, body_tree, sequence_trees}
 use Rattle.text_grammar.specs.Parser.{Parsed, got, bind, on_mark, expect, parse_number, parse_clock, parse_condition, parse_step, parse_sequence, parse_body, end_text}

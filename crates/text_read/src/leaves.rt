@@ -1,34 +1,29 @@
-// Reads what has no step inside: marks, conditions and leaves.
-ghost use Rattle.std.specs.Prelude.{◌≡◌, ◌≤◌, length};
+// Reads what has no step inside: marks, numbers, conditions and leaves.
+ghost use Rattle.std.specs.Prelude.{◌≡◌, ◌≤◌, length, Some};
+ghost use Rattle.std.specs.Bool.{Decides};
+ghost use Rattle.meaning.specs.Kinds.{number_of, test_number};
+ghost use Rattle.text_grammar.specs.declared.tokens.Token.TheVariants.{Mark as mark};
 ghost use Rattle.text_grammar.specs.Texts.{max_text_length};
 ghost use Rattle.text_grammar.specs.Lexer.{tokens_from};
+ghost use Rattle.text_grammar.specs.Parser.{parse_number};
 ghost use Rattle.text_stops.specs.Places.{cut_at};
-ghost use Rattle.text_tokens.specs.First.{kind_of_first, first_value, later_tokens, Passed};
-ghost use Rattle.text_read.specs.Entries.{value_entries, condition_entries, goal_entries, start_entries};
-ghost use Rattle.text_read.specs.Reading.{Does, Passes, TestsOne, Room, Moves, Bracketed, place_of, parts_of};
+ghost use Rattle.text_tokens.specs.First.{first_token, later_tokens, Passed};
+ghost use Rattle.text_read.specs.Entries.{value_entries, test_entries, condition_entries, goal_entries, start_entries};
+ghost use Rattle.text_read.specs.Reading.{next_token, number_or_stop, Does, Passes, Room, Moves, Bracketed, place_of, parts_of};
 
-use crate::{Read, SignTest};
-use meaning::kinds::{AT_LEAST, BELOW, DIFFERS, EQUALS, GOAL, START};
+use crate::{Reached, Read, SignTest, Stop};
+use meaning::kinds::{Kind, Test};
+use text_grammar::tokens::{Mark, Token};
 use text_parts::{clamped, put_part};
-use text_tokens::kinds::{
-    AT_LEAST_SIGN, BELOW_SIGN, CLOCK, DIFFERS_SIGN, EQUAL_SIGN, NUMBER, OPENING, VARIABLE,
-};
-use text_tokens::{end_at, kind_at, value_at};
+use text_tokens::{end_at, token_at};
 
-// The kind of the first token from place e on.
-pub(crate) fn kind_from(t: &[u8], e: u16) -> u8
+// The first token from place e on, by whose kind a reader goes: no sign where there is none.
+#[tactic(auto, unfolding(crate::specs::Reading::next_token))]
+pub(crate) fn next_token(t: &[u8], e: u16) -> Token
     requires { e ≤ length t.now }
-    ensures { result ≡ kind_of_first (tokens_from t.now e) }
+    ensures { result ≡ next_token (tokens_from t.now e) }
 {
-    kind_at(t, e as usize)
-}
-
-// Its value.
-pub(crate) fn value_from(t: &[u8], e: u16) -> u16
-    requires { e ≤ length t.now }
-    ensures { result ≡ first_value (tokens_from t.now e) }
-{
-    value_at(t, e as usize)
+    token_at(t, usize::from(e)).unwrap_or(Token::Unknown)
 }
 
 // The place after it.
@@ -37,138 +32,162 @@ pub(crate) fn after(t: &[u8], e: u16) -> u16
     requires e_in_bounds { e ≤ length t.now }
     ensures { Passed t.now e result }
 {
-    end_at(t, e as usize) as u16
+    end_at(t, usize::from(e)) as u16
+}
+
+// Whether it is a mark.
+pub(crate) fn stands_at(t: &[u8], e: u16, m: Mark) -> bool
+    requires { e ≤ length t.now }
+    ensures { Decides result (first_token (tokens_from t.now e) ≡ Some (mark m)) }
+{
+    token_at(t, usize::from(e)) == Some(Token::Mark(m))
+}
+
+// The number that must stand next.
+pub(crate) fn number_from(t: &[u8], e: u16) -> Result<u16, Stop>
+    requires { e ≤ length t.now }
+    ensures { result ≡ number_or_stop e (parse_number (tokens_from t.now e)) }
+{
+    match next_token(t, e) {
+        Token::Number(n) => Ok(n),
+        _ => Err(Stop { place: e }),
+    }
 }
 
 // Passes the mark that must stand next.
-pub(crate) fn expect(t: &[u8], read: Read, mark: u8) -> Read
-    requires { Room t.now (place_of read) (parts_of read) }
-    ensures passes { Passes t.now read mark result }
-    ensures moves { Moves t.now (place_of read) (parts_of read) (place_of result) (parts_of result) }
+pub(crate) fn expect(t: &[u8], at: Reached, m: Mark) -> Read
+    requires { Room t.now at.place at.parts }
+    ensures passes { Passes t.now at m result }
+    ensures moves { Moves t.now at.place at.parts (place_of result) (parts_of result) }
 {
-    let Read::Ends(e, n) = read else {
-        return read;
-    };
-    if kind_from(t, e) != mark {
-        return Read::Stops(e);
+    if !stands_at(t, at.place, m) {
+        return Err(Stop { place: at.place });
     }
-    Read::Ends(after(t, e), n)
+    Ok(Reached {
+        place: after(t, at.place),
+        ..at
+    })
 }
 
-// Reads the value that must stand next, and stores part n with it.
-fn valued(t: &[u8], from: u16, parts: &mut [u8], n: u16, kind: u8, b0: u8, subject: u16) -> Read
-    requires { Room t.now from n }
-    ensures does { Does t.now parts.old n result parts.new (value_entries kind b0 subject (tokens_from t.now from)) }
-    ensures moves { Moves t.now from n (place_of result) (parts_of result) }
+// Reads the value that must stand next, and stores a part with it.
+fn valued(t: &[u8], at: Reached, parts: &mut [u8], kind: Kind, test: Test, subject: u16) -> Read
+    requires { Room t.now at.place at.parts }
+    ensures does { Does t.now parts.old at.parts result parts.new (value_entries (number_of kind) (test_number test) subject (tokens_from t.now at.place)) }
+    ensures moves { Moves t.now at.place at.parts (place_of result) (parts_of result) }
 {
-    if kind_from(t, from) != NUMBER {
-        return Read::Stops(from);
-    }
-    put_part(parts, n, kind, b0, clamped(subject), value_from(t, from));
-    Read::Ends(after(t, from), n + 1)
+    let value = number_from(t, at.place)?;
+    put_part(
+        parts,
+        at.parts,
+        kind.into(),
+        test.into(),
+        clamped(subject),
+        value,
+    );
+    Ok(Reached {
+        place: after(t, at.place),
+        parts: at.parts + 1,
+    })
 }
 
-// Reads one of two signs after the variable or clock at place `from`, and the value that it is tested against.
+// Reads one of two signs, and the value that a variable or clock is tested against.
 fn tested(
     t: &[u8],
-    from: u16,
+    at: Reached,
     parts: &mut [u8],
-    n: u16,
-    kind: u8,
+    kind: Kind,
+    subject: u16,
     first: SignTest,
     second: SignTest,
 ) -> Read
-    requires { Room t.now from n }
-    ensures tests_one { TestsOne t.now parts.old from n kind first second result parts.new }
-    ensures moves { Moves t.now from n (place_of result) (parts_of result) }
+    requires { Room t.now at.place at.parts }
+    ensures does { Does t.now parts.old at.parts result parts.new (test_entries (number_of kind) subject first.sign (test_number first.test) second.sign (test_number second.test) (tokens_from t.now at.place)) }
+    ensures moves { Moves t.now at.place at.parts (place_of result) (parts_of result) }
 {
-    let place = after(t, from);
-    let sign = kind_from(t, place);
-    if sign == first.sign {
-        return valued(
-            t,
-            after(t, place),
-            parts,
-            n,
-            kind,
-            first.test,
-            value_from(t, from),
-        );
+    let next = Reached {
+        place: after(t, at.place),
+        ..at
+    };
+    if stands_at(t, at.place, first.sign) {
+        return valued(t, next, parts, kind, first.test, subject);
     }
-    if sign == second.sign {
-        return valued(
-            t,
-            after(t, place),
-            parts,
-            n,
-            kind,
-            second.test,
-            value_from(t, from),
-        );
+    if stands_at(t, at.place, second.sign) {
+        return valued(t, next, parts, kind, second.test, subject);
     }
-    Read::Stops(place)
+    Err(Stop { place: at.place })
 }
 
-// Reads a condition, and stores part n of a kind with it.
-pub(crate) fn condition(t: &[u8], from: u16, parts: &mut [u8], n: u16, kind: u8) -> Read
-    requires { Room t.now from n }
-    ensures does { Does t.now parts.old n result parts.new (condition_entries kind (tokens_from t.now from)) }
-    ensures moves { Moves t.now from n (place_of result) (parts_of result) }
+// Reads a condition, and stores a part of a kind with it.
+pub(crate) fn condition(t: &[u8], at: Reached, parts: &mut [u8], kind: Kind) -> Read
+    requires { Room t.now at.place at.parts }
+    ensures does { Does t.now parts.old at.parts result parts.new (condition_entries (number_of kind) (tokens_from t.now at.place)) }
+    ensures moves { Moves t.now at.place at.parts (place_of result) (parts_of result) }
 {
-    let subject = kind_from(t, from);
-    if subject == VARIABLE {
-        let equals = SignTest {
-            sign: EQUAL_SIGN,
-            test: EQUALS,
-        };
-        let differs = SignTest {
-            sign: DIFFERS_SIGN,
-            test: DIFFERS,
-        };
-        return tested(t, from, parts, n, kind, equals, differs);
+    let next = Reached {
+        place: after(t, at.place),
+        ..at
+    };
+    match next_token(t, at.place) {
+        Token::Variable(v) => {
+            let equals = SignTest {
+                sign: Mark::EqualSign,
+                test: Test::Equals,
+            };
+            let differs = SignTest {
+                sign: Mark::DiffersSign,
+                test: Test::Differs,
+            };
+            tested(t, next, parts, kind, v, equals, differs)
+        }
+        Token::Clock(c) => {
+            let at_least = SignTest {
+                sign: Mark::AtLeastSign,
+                test: Test::AtLeast,
+            };
+            let below = SignTest {
+                sign: Mark::BelowSign,
+                test: Test::Below,
+            };
+            tested(t, next, parts, kind, c, at_least, below)
+        }
+        _ => Err(Stop { place: at.place }),
     }
-    if subject == CLOCK {
-        let at_least = SignTest {
-            sign: AT_LEAST_SIGN,
-            test: AT_LEAST,
-        };
-        let below = SignTest {
-            sign: BELOW_SIGN,
-            test: BELOW,
-        };
-        return tested(t, from, parts, n, kind, at_least, below);
-    }
-    Read::Stops(from)
 }
 
-// Reads a goal, whose variable stands at place `from`.
-pub(crate) fn goal(t: &[u8], from: u16, parts: &mut [u8], n: u16) -> Read
-    requires { Room t.now from n }
-    ensures does { Does t.now parts.old n result parts.new (goal_entries (first_value (tokens_from t.now from)) (later_tokens (tokens_from t.now from))) }
-    ensures moves { Moves t.now from n (place_of result) (parts_of result) }
+// Reads a goal after its variable v.
+pub(crate) fn goal(t: &[u8], at: Reached, parts: &mut [u8], v: u16) -> Read
+    requires { Room t.now at.place at.parts }
+    ensures does { Does t.now parts.old at.parts result parts.new (goal_entries v (tokens_from t.now at.place)) }
+    ensures moves { Moves t.now at.place at.parts (place_of result) (parts_of result) }
 {
-    let place = after(t, from);
-    if kind_from(t, place) != EQUAL_SIGN {
-        return Read::Stops(place);
+    if !stands_at(t, at.place, Mark::EqualSign) {
+        return Err(Stop { place: at.place });
     }
-    valued(t, after(t, place), parts, n, GOAL, 0, value_from(t, from))
+    let next = Reached {
+        place: after(t, at.place),
+        ..at
+    };
+    valued(t, next, parts, Kind::Goal, Test::Untested, v)
 }
 
 // Reads the clock that is started.
-pub(crate) fn start(t: &[u8], from: u16, parts: &mut [u8], n: u16) -> Read
-    requires { Room t.now from n }
-    ensures does { Does t.now parts.old n result parts.new (start_entries (tokens_from t.now from)) }
-    ensures moves { Moves t.now from n (place_of result) (parts_of result) }
+pub(crate) fn start(t: &[u8], at: Reached, parts: &mut [u8]) -> Read
+    requires { Room t.now at.place at.parts }
+    ensures does { Does t.now parts.old at.parts result parts.new (start_entries (tokens_from t.now at.place)) }
+    ensures moves { Moves t.now at.place at.parts (place_of result) (parts_of result) }
 {
-    if kind_from(t, from) != CLOCK {
-        return Read::Stops(from);
-    }
-    put_part(parts, n, START, 0, clamped(value_from(t, from)), 0);
-    Read::Ends(after(t, from), n + 1)
+    let Token::Clock(c) = next_token(t, at.place) else {
+        return Err(Stop { place: at.place });
+    };
+    put_part(parts, at.parts, Kind::Start.into(), 0, clamped(c), 0);
+    Ok(Reached {
+        place: after(t, at.place),
+        parts: at.parts + 1,
+    })
 }
 
 // How many opening brackets stand together, and the place after them.
-#[derive(Clone, Copy)]
+#[derive(Clone, Copy, PartialEq, Eq)]
 pub struct Opened {
     pub count: u16,
     pub place: u16,
@@ -182,12 +201,9 @@ pub(crate) fn brackets(t: &[u8], from: u16) -> Opened
 {
     let mut place = from;
     let mut count: u16 = 0;
-    while kind_from(t, place) == OPENING {
+    while stands_at(t, place, Mark::Opening) {
         place = after(t, place);
         count += 1;
     }
-    Opened {
-        count: count,
-        place: place,
-    }
+    Opened { count, place }
 }

@@ -7,57 +7,58 @@ ghost use Rattle.text_stops.specs.Places.{cut_at};
 ghost use Rattle.text_read.specs.Entries.{parse_header, parse_program};
 ghost use Rattle.text_read.specs.Reading.{ReadsHeader, ReadsText};
 
-use crate::leaves::{after, kind_from, value_from};
+use crate::leaves::{after, number_from, stands_at};
 use crate::steps::body;
-use crate::{Header, Read, Reading};
-use text_tokens::kinds::{COLON, NO_TOKEN, NUMBER};
+use crate::{Header, Program, Reached, Stop};
+use text_grammar::tokens::Mark;
+use text_tokens::token_at;
 
 // Reads the sizes and the colon.
-fn read_header(t: &[u8]) -> Header
+fn read_header(t: &[u8]) -> Result<Header, Stop>
     requires { length t.now ≤ max_text_length }
     ensures { ReadsHeader t.now result (parse_header (tokens_from t.now 0)) }
 {
     let second = after(t, 0);
     let third = after(t, second);
-    if kind_from(t, 0) != NUMBER {
-        return Header::Stops(0);
+    let variables = number_from(t, 0)?;
+    let clocks = number_from(t, second)?;
+    if !stands_at(t, third, Mark::Colon) {
+        return Err(Stop { place: third });
     }
-    if kind_from(t, second) != NUMBER {
-        return Header::Stops(second);
-    }
-    if kind_from(t, third) != COLON {
-        return Header::Stops(third);
-    }
-    Header::Sizes(value_from(t, 0), value_from(t, second), after(t, third))
+    Ok(Header {
+        variables,
+        clocks,
+        body: after(t, third),
+    })
 }
 
 // Reads the body, with which the text must end.
-fn read_program(t: &[u8], from: u16, parts: &mut [u8], v: u16, k: u16) -> Reading
+fn read_program(t: &[u8], header: Header, parts: &mut [u8]) -> Result<Program, Stop>
     requires t_len_bound { length t.now ≤ max_text_length }
-    requires from_in_bounds { from ≤ length t.now }
-    requires from_value { cut_at t.now from ≡ 0 }
-    ensures { ReadsText t.now parts.old result parts.new (parse_program v k (tokens_from t.now from)) }
+    requires body_in_bounds { header.body ≤ length t.now }
+    requires body_value { cut_at t.now header.body ≡ 0 }
+    ensures { ReadsText t.now parts.old result parts.new (parse_program header.variables header.clocks (tokens_from t.now header.body)) }
 {
-    let read = body(t, from, parts, 0);
-    match read {
-        Read::Ends(e, n) => {
-            if kind_from(t, e) != NO_TOKEN {
-                return Reading::Stops(e);
-            }
-            Reading::Program(n, v, k)
-        }
-        Read::Stops(e) => Reading::Stops(e),
+    let begin = Reached {
+        place: header.body,
+        parts: 0,
+    };
+    let end = body(t, begin, parts)?;
+    if token_at(t, usize::from(end.place)).is_some() {
+        return Err(Stop { place: end.place });
     }
+    Ok(Program {
+        parts: end.parts,
+        variables: header.variables,
+        clocks: header.clocks,
+    })
 }
 
 // Reads a text of at most the longest length: its parts are stored from the buffer's begin on.
-pub fn read_text(t: &[u8], parts: &mut [u8]) -> Reading
+pub fn read_text(t: &[u8], parts: &mut [u8]) -> Result<Program, Stop>
     requires { length t.now ≤ max_text_length }
     ensures { ReadsText t.now parts.old result parts.new (parse_text (tokens t.now)) }
 {
-    let header = read_header(t);
-    match header {
-        Header::Sizes(v, k, from) => read_program(t, from, parts, v, k),
-        Header::Stops(e) => Reading::Stops(e),
-    }
+    let header = read_header(t)?;
+    read_program(t, header, parts)
 }

@@ -4,7 +4,10 @@ use mathlib.Core.Path.{◌≡◌, refl, ap, sym, ◌∙◌}
 use mathlib.Core.List.{List, [], ◌∷◌, ◌++◌, append_assoc, append_cancel_right, append-eq-nil_iff}
 use mathlib.Core.Option.{Option, none, some}
 use native.Mathlib.Omega.{arith}
-use Rattle.text_grammar.specs.Tokens.{Mark, mark-discrete, Token, mark, number, variable, clock, unknown}
+use Rattle.text_grammar.specs.declared.tokens.Mark.{Mark}
+use Rattle.text_grammar.specs.declared.tokens.Token.{Token}
+use Rattle.text_grammar.specs.declared.tokens.Token.TheVariants.{Mark as mark, Number as number, Variable as variable, Clock as clock, Unknown as unknown}
+use Rattle.text_grammar.specs.Tokens.{mark-discrete}
 use Rattle.text_grammar.specs.Parser.{Parsed, got, stopped, bind, when, on_mark, expect}
 use Rattle.text_grammar.proofs.Complete.{on_mark_lem}
 use Rattle.text_stops.specs.Stopping.{first_token}

@@ -15,7 +15,7 @@ use borrow.Author.Tests.{eqb-true}
 use Rattle.base.specs.Lists.{all, nonempty, flag, same}
 use Rattle.base.proofs.Lists.{and_left, and_right, same_eq}
 use Rattle.text_grammar.specs.Characters.{bytes, is_blank, is_digit, is_word_byte}
-use Rattle.text_grammar.specs.Tokens.{Token}
+use Rattle.text_grammar.specs.declared.tokens.Token.{Token}
 use Rattle.text_grammar.specs.Lexer.{joins, end_run, tokens_after, tokens, tokens_from}
 use Rattle.text_grammar.proofs.Lexing.{impossible, one_of, word_not_blank, join_step, cut_again, blank_step, run_step, all_snoc, word_differs}
 use Rattle.text_stops.specs.Places.{goes_on, places_after, places, place_of_last, cut_at}

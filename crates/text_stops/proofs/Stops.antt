@@ -8,7 +8,7 @@ use lib.Seq.{take_at, drop_at}
 use native.Mathlib.Omega.{arith}
 use native.Mathlib.Decide.{dec_le}
 use borrow.Author.Tests.{le-leb, lt-leb}
-use Rattle.text_grammar.specs.Tokens.{Token}
+use Rattle.text_grammar.specs.declared.tokens.Token.{Token}
 use Rattle.text_grammar.specs.Syntax.{Text}
 use Rattle.text_grammar.specs.Texts.{max_text_length}
 use Rattle.text_grammar.specs.Lexer.{tokens, tokens_from}

@@ -2,7 +2,7 @@
 use Rattle.std.specs.Prelude.{ℕ, ◌≤◌, ◌<◌, ◌≡◌, false, List, [], ◌∷◌, ◌++◌, length, get_or, take}
 use Rattle.std.proofs.Math.Option.{Option, none, some}
 use Rattle.text_grammar.specs.Characters.{is_blank}
-use Rattle.text_grammar.specs.Tokens.{Token}
+use Rattle.text_grammar.specs.declared.tokens.Token.{Token}
 use Rattle.text_grammar.specs.Syntax.{Text, write_text}
 use Rattle.text_grammar.specs.Lexer.{tokens, tokens_from}
 

@@ -1,144 +1,111 @@
--- What kind of token a run is.
-use Prim.Native.Nat.{ℕ, ◌-◌, ◌<◌}
+-- What token a run is.
+use Prim.Native.Nat.{ℕ, ◌-◌, ◌<◌, ◌≤◌}
 use Prim.Native.Char.{code}
 use native.Mathlib.Omega.{arith}
+use lib.Dec.{eqb}
+use borrow.Author.Tests.{ne_eqb}
 use mathlib.Core.Path.{◌≡◌, refl, sym, ◌∙◌}
-use mathlib.Core.Bool.{Bool, true, false, cond, ◌&&◌}
-use mathlib.Core.List.{List, [], ◌∷◌, ◌++◌, map}
-use lib.Dec.{eqb, ltb}
+use mathlib.Core.Bool.{Bool, true, false, cond}
+use mathlib.Core.List.{List, [], ◌∷◌}
 use lib.ListN.{length, get_or, take, drop}
-use borrow.Author.Tests.{ltb-true, ne_eqb}
+use Rattle.std.specs.Prelude.{Some, None}
+use Rattle.std.specs.Str.{bytes_eq}
 use Rattle.base.specs.Lists.{same}
-use Rattle.base.proofs.Lists.{and_left, and_right, cond_map, cond_cases, cond_same, same_eq}
+use Rattle.base.proofs.Lists.{cond_same}
 use Rattle.base.proofs.Stores.{take_rest}
-use Rattle.text_grammar.specs.Tokens.{Mark, start_word, wait_word, maintain_word, repeat_word, if_word, then_word, else_word, equal_sign, differs_sign, at_least_sign, below_sign, semicolon, comma, opening, closing, colon, number, spelling, is_number, numbered, named_token, token_among, token_of}
-use Rattle.text_tokens.specs.First.{mark_number, kind_number, mark_among, no_number, number_of}
-use Rattle.text_tokens.proofs.Decimals.{is_number_lem, no_number_lem}
+use Rattle.text_grammar.specs.declared.tokens.Mark.{Mark}
+use Rattle.text_grammar.specs.declared.tokens.Token.TheVariants.{Mark as mark, Number as number, Variable as variable, Clock as clock, Unknown as unknown}
+use Rattle.text_grammar.specs.Tokens.{marks, spelling, decimal, is_number, numbered, named_token, token_among, token_of}
+use Rattle.text_tokens.specs.First.{mark_among, number_in}
 
--- the numbers of the other kinds
-abbrev pub number_kind : ℕ
-number_kind = 17
+-- `==` on bytes
+pub same_bytes : (xs ys : List ℕ) (r : Bool) → r ≡ bytes_eq xs ys → r ≡ same xs ys
+same_bytes xs ys r h = h ∙ go xs ys
+  where
+    go : (xs ys : List ℕ) → bytes_eq xs ys ≡ same xs ys
+    go [] [] = refl
+    go [] (y ∷ ys) = refl
+    go (x ∷ xs) [] = refl
+    go (x ∷ xs) (y ∷ ys) = rw (go xs ys)
 
-abbrev pub variable_kind : ℕ
-variable_kind = 18
-
-abbrev pub clock_kind : ℕ
-clock_kind = 19
-
--- A run that is spelled as a mark is that one among others, wherever it stands among them
-pub mark_found : (ms : List Mark) (run word : List ℕ) (k : ℕ) (r : Bool) → r ≡ same run word → r ≡ true → k ≡ mark_among ms word → k ≡ mark_among ms run
-mark_found ms run word k r r-is e k-is = rw (same_eq run word (sym r-is ∙ e)) k-is
-
--- a run that is none of them
-pub mark_none : (ms : List Mark) (run : List ℕ) → map (λ m. same run (spelling m)) ms ≡ map (λ m. false) ms → 0 ≡ mark_among ms run
-unfolding mark_among
-mark_none [] run h = refl
-mark_none (m ∷ ms) run h =
-    let first : same run (spelling m) ≡ false = cc in
-    rw first (mark_none ms run (cc))
-
--- The marks' numbers, which no other kind has
-mark_range : (m : Mark) → (ltb 0 (mark_number m) && ltb (mark_number m) number_kind) ≡ true
-unfolding mark_number
-mark_range start_word = refl
-mark_range wait_word = refl
-mark_range maintain_word = refl
-mark_range repeat_word = refl
-mark_range if_word = refl
-mark_range then_word = refl
-mark_range else_word = refl
-mark_range equal_sign = refl
-mark_range differs_sign = refl
-mark_range at_least_sign = refl
-mark_range below_sign = refl
-mark_range semicolon = refl
-mark_range comma = refl
-mark_range opening = refl
-mark_range closing = refl
-mark_range colon = refl
-
-mark_positive : (m : Mark) → 0 < mark_number m
-mark_positive m = ltb-true 0 (mark_number m) (and_left _ (ltb (mark_number m) number_kind) (mark_range m))
-
-pub mark_below : (m : Mark) → mark_number m < number_kind
-mark_below m = ltb-true (mark_number m) number_kind (and_right (ltb 0 (mark_number m)) _ (mark_range m))
-
--- A run that is one of the first marks, and one that is none of them
-among_first : (ms ns : List Mark) (run : List ℕ) (k : ℕ) → (k ≡ 0 → ⊥) → k ≡ mark_among ms run → k ≡ kind_number (token_among (ms ++ ns) run)
-unfolding mark_among token_among kind_number
-among_first [] ns run k h e = absurd (h e)
-among_first (m ∷ ms) ns run k h e =
-    cond_cases (λ t. k ≡ kind_number t) (same run (spelling m)) _ _ (λ same_word. rw same_word at e) (λ other. among_first ms ns run k h (rw other at e))
-
-among_rest : (ms ns : List Mark) (run : List ℕ) → 0 ≡ mark_among ms run → token_among (ms ++ ns) run ≡ token_among ns run
+-- A run that is spelled as one of these marks, and one that is spelled as none
+among_mark : (ms : List Mark) (run : List ℕ) (m : Mark) → Some m ≡ mark_among ms run → token_among ms run ≡ mark m
 unfolding mark_among token_among
-among_rest [] ns run e = refl
-among_rest (m ∷ ms) ns run e =
-    cond_cases (λ t. t ≡ token_among ns run) (same run (spelling m)) _ _ (λ same_word. let z = rw same_word at e in absurd (omega (arith, mark_positive m))) (λ other. among_rest ms ns run (rw other at e))
+among_mark [] run m h = cc
+among_mark (k ∷ ms) run m h = go (same run (spelling k)) h (among_mark ms run m)
+  where
+    go : (b : Bool) → Some m ≡ cond b (Some k) (mark_among ms run) → (Some m ≡ mark_among ms run → token_among ms run ≡ mark m) → cond b (mark k) (token_among ms run) ≡ mark m
+    go true i rest = cc
+    go false i rest = rest i
 
--- the words and the signs, which are all the marks
-abbrev words : List Mark
-words = start_word ∷ wait_word ∷ maintain_word ∷ repeat_word ∷ if_word ∷ then_word ∷ else_word ∷ []
+among_none : (ms : List Mark) (run : List ℕ) → None ≡ mark_among ms run → token_among ms run ≡ numbered number run (named_token run)
+unfolding mark_among token_among
+among_none [] run h = refl
+among_none (k ∷ ms) run h = go (same run (spelling k)) h (among_none ms run)
+  where
+    go : (b : Bool) → None ≡ cond b (Some k) (mark_among ms run) → (None ≡ mark_among ms run → token_among ms run ≡ numbered number run (named_token run))
+        → cond b (mark k) (token_among ms run) ≡ numbered number run (named_token run)
+    go true i rest = cc
+    go false i rest = rest i
 
-abbrev signs : List Mark
-signs = equal_sign ∷ differs_sign ∷ at_least_sign ∷ below_sign ∷ semicolon ∷ comma ∷ opening ∷ closing ∷ colon ∷ []
-
-pub kind_word : (run : List ℕ) (w : ℕ) → w ≡ mark_among words run → (w ≡ 0 → ⊥) → w ≡ kind_number (token_of run)
+pub token_mark : (run : List ℕ) (m : Mark) → Some m ≡ mark_among marks run → mark m ≡ token_of run
 unfolding token_of
-kind_word run w w-is h = among_first words signs run w h w-is
+token_mark run m h = sym (among_mark marks run m h)
 
-module _ (run : List ℕ) (w s : ℕ) (w-is : w ≡ mark_among words run) (no_word : w ≡ 0) (s-is : s ≡ mark_among signs run) where
-  after_words : token_of run ≡ token_among signs run
-  unfolding token_of
-  after_words = among_rest words signs run (sym no_word ∙ w-is)
+-- whether a run is a number
+number_some : (run : List ℕ) (n : ℕ) → Some n ≡ number_in run → (is_number run ≡ true) × (decimal run ≡ n)
+unfolding number_in
+number_some run n h = go (is_number run) refl h
+  where
+    go : (b : Bool) → is_number run ≡ b → Some n ≡ cond b (Some (decimal run)) None → (is_number run ≡ true) × (decimal run ≡ n)
+    go true e i = (e, cc)
+    go false e i = cc
 
-  pub kind_sign : (s ≡ 0 → ⊥) → s ≡ kind_number (token_of run)
-  kind_sign h = rw after_words (among_first signs [] run s h s-is)
+number_none_lem : (run : List ℕ) → None ≡ number_in run → is_number run ≡ false
+unfolding number_in
+number_none_lem run h = go (is_number run) refl h
+  where
+    go : (b : Bool) → is_number run ≡ b → None ≡ cond b (Some (decimal run)) None → is_number run ≡ false
+    go true e i = cc
+    go false e i = e
 
-  module _ (x : ℕ) (no_sign : s ≡ 0) (x-is : x ≡ number_of run) where
-    after_signs : token_of run ≡ numbered number run (named_token run)
-    unfolding token_among
-    after_signs = after_words ∙ among_rest signs [] run (sym no_sign ∙ s-is)
+pub token_number : (run : List ℕ) (n : ℕ) → None ≡ mark_among marks run → Some n ≡ number_in run → number n ≡ token_of run
+unfolding token_of
+token_number run n h i = let s = number_some run n i in sym (among_none marks run h ∙ rw (s.0, s.1))
 
-    pub kind_number_lem : (x ≡ no_number → ⊥) → number_kind ≡ kind_number (token_of run)
-    unfolding kind_number
-    kind_number_lem h = rw (after_signs, is_number_lem run x x-is h)
+pub token_name : (run : List ℕ) → None ≡ mark_among marks run → None ≡ number_in run → named_token run ≡ token_of run
+unfolding token_of
+token_name run h i = sym (among_none marks run h ∙ rw (number_none_lem run i))
 
-    pub kind_name : (k : ℕ) → x ≡ no_number → k ≡ kind_number (named_token run) → k ≡ kind_number (token_of run)
-    kind_name k h k-is = rw (after_signs, no_number_lem run x x-is h) k-is
+-- A run of `v` or `c` and a number, or of neither
+pub named_empty : (run : List ℕ) → length run < 1 → unknown ≡ named_token run
+unfolding named_token
+named_empty [] h = refl
+named_empty (b ∷ rest) h = absurd (omega arith)
 
--- `v` or `c`, and behind it a number
-pub name_empty : (run : List ℕ) → length run ≡ 0 → 0 ≡ kind_number (named_token run)
-unfolding named_token kind_number
-name_empty [] h = refl
-name_empty (b ∷ rest) h = absurd (omega arith)
-
-module _ (run : List ℕ) (x : ℕ) (x-is : x ≡ number_of (take (length run - 1) (drop 1 run))) where
-  pub behind : x ≡ number_of (drop 1 run)
-  behind = rw (take_rest run 1) at x-is
-
-  pub name_unnumbered : x ≡ no_number → 0 ≡ kind_number (named_token run)
-  unfolding named_token kind_number
-  name_unnumbered h = go run (no_number_lem (drop 1 run) x behind h)
+module _ (run : List ℕ) (h : 1 ≤ length run) where
+  named_first : named_token run
+      ≡ cond (eqb (get_or run 0 0) (code "v")) (numbered variable (drop 1 run) unknown) (cond (eqb (get_or run 0 0) (code "c")) (numbered clock (drop 1 run) unknown) unknown)
+  unfolding named_token
+  named_first = go run h
     where
-      go : (l : List ℕ) → is_number (drop 1 l) ≡ false → 0 ≡ kind_number (named_token l)
-      go [] e = refl
-      go (b ∷ rest) e = simp (e, cond_same)
+      go : (l : List ℕ) → 1 ≤ length l
+          → named_token l ≡ cond (eqb (get_or l 0 0) (code "v")) (numbered variable (drop 1 l) unknown) (cond (eqb (get_or l 0 0) (code "c")) (numbered clock (drop 1 l) unknown) unknown)
+      go [] k = absurd (omega arith)
+      go (b ∷ rest) k = refl
 
-  module _ (h : length run ≡ 0 → ⊥) (is : x ≡ no_number → ⊥) where
-    by_first : kind_number (named_token run) ≡ cond (eqb (get_or run 0 0) (code "v")) variable_kind (cond (eqb (get_or run 0 0) (code "c")) clock_kind 0)
-    unfolding named_token kind_number
-    by_first = go run h (is_number_lem (drop 1 run) x behind is)
-      where
-        go : (l : List ℕ) → (length l ≡ 0 → ⊥) → is_number (drop 1 l) ≡ true → kind_number (named_token l) ≡ cond (eqb (get_or l 0 0) (code "v")) variable_kind (cond (eqb (get_or l 0 0) (code "c")) clock_kind 0)
-        go [] n e = absurd (n refl)
-        go (b ∷ rest) n e = rw (e, cond_map kind_number (eqb b (code "v")), cond_map kind_number (eqb b (code "c")))
+  module _ (n : ℕ) (n-is : Some n ≡ number_in (take (length run - 1) (drop 1 run))) where
+    behind : (is_number (drop 1 run) ≡ true) × (decimal (drop 1 run) ≡ n)
+    behind = number_some (drop 1 run) n (rw (take_rest run 1) at n-is)
 
-    pub name_variable : get_or run 0 0 ≡ code "v" → variable_kind ≡ kind_number (named_token run)
-    name_variable e = sym (by_first ∙ rw e)
+    pub named_variable : get_or run 0 0 ≡ code "v" → variable n ≡ named_token run
+    named_variable e = let s = behind in sym (named_first ∙ rw (e, s.0, s.1))
 
-    pub name_clock : get_or run 0 0 ≡ code "c" → clock_kind ≡ kind_number (named_token run)
-    name_clock e = sym (by_first ∙ rw e)
+    pub named_clock : get_or run 0 0 ≡ code "c" → clock n ≡ named_token run
+    named_clock e = let s = behind in sym (named_first ∙ rw (e, s.0, s.1))
 
-    pub name_other : (get_or run 0 0 ≡ code "v" → ⊥) → (get_or run 0 0 ≡ code "c" → ⊥) → 0 ≡ kind_number (named_token run)
-    name_other n m = sym (by_first ∙ rw (ne_eqb (get_or run 0 0) (code "v") n, ne_eqb (get_or run 0 0) (code "c") m))
+  pub named_unnumbered : None ≡ number_in (take (length run - 1) (drop 1 run)) → unknown ≡ named_token run
+  named_unnumbered e = sym (named_first ∙ simp (number_none_lem (drop 1 run) (rw (take_rest run 1) at e), cond_same))
+
+  pub named_other : (get_or run 0 0 ≡ code "v" → ⊥) → (get_or run 0 0 ≡ code "c" → ⊥) → unknown ≡ named_token run
+  named_other n m = sym (named_first ∙ rw (ne_eqb (get_or run 0 0) (code "v") n, ne_eqb (get_or run 0 0) (code "c") m))

@@ -1,42 +1,61 @@
 -- Where the tokens of a text begin and end, and what the text's tokens are from such a place on.
-use Prim.Native.Nat.{ℕ, zero, suc, ◌+◌, ◌-◌, ◌<◌, ◌≤◌}
+use Prim.Native.Nat.{ℕ, zero, suc, ◌+◌, ◌-◌, ◌<◌, ◌≤◌, ◌^◌}
 use Prim.Native.Char.{code}
 use native.Mathlib.Numerals.{add-one}
+use Rattle.std.proofs.Common.{add-zero}
 use native.Mathlib.Omega.{arith}
-use mathlib.Core.Path.{◌≡◌, refl, sym, subst, ◌∙◌}
-use mathlib.Core.Bool.{Bool, true, false, not, ◌&&◌, ◌||◌, and-false}
+use mathlib.Core.Path.{◌≡◌, refl, ap, sym, subst, ◌∙◌}
+use mathlib.Core.Bool.{Bool, true, false, ◌&&◌, ◌||◌, and-false}
 use mathlib.Core.List.{List, [], ◌∷◌, ◌++◌}
 use lib.Dec.{eqb}
-use lib.ListN.{length, get_or, take, drop, length-drop, drop_of_length-le}
+use Rattle.std.specs.Prelude.{Some, None}
+use Rattle.std.specs.List.{prefix_len, take_while}
+use Rattle.std.proofs.lemmas.List.Folds.{length-prefix_len}
+use Rattle.std.proofs.lemmas.List.{length-take, length-drop}
+use Rattle.std.proofs.lemmas.List.Sums.{prefix_len-drop_yes, prefix_len-drop_no, prefix_len-drop_all}
+use lib.ListN.{length, get_or, take, drop, drop_of_length-le}
 use lib.Seq.{drop-cons, take-suc, get_or-drop}
-use borrow.Author.Tests.{not-true, not-false, eqb-true}
+use borrow.Author.Tests.{eqb-true}
 use Rattle.base.specs.Lists.{all, bytes_at}
 use Rattle.base.proofs.Lists.{and_right, all_append, each_passes}
 use Rattle.base.proofs.Stores.{length_bytes, get_or_bytes, drop_bytes, take_bytes, bytes_front}
 use Rattle.base.proofs.Facts.{get_or_inside}
 use Rattle.text_grammar.specs.Characters.{is_blank, is_digit, is_word_byte}
+use Rattle.text_grammar.specs.declared.tokens.Token.{Token}
 use Rattle.text_grammar.specs.Tokens.{token_of}
 use Rattle.text_grammar.specs.Lexer.{joins, end_run, tokens_after, tokens, tokens_from}
 use Rattle.text_grammar.proofs.Lexing.{impossible, blank_step, begins_word, word_law, sign_law, pair_law}
 use Rattle.text_stops.specs.Places.{goes_on, cut_at}
 use Rattle.text_stops.proofs.Places.{blank_apart, follows_one, word_apart, uncut_after, uncut_end}
-use Rattle.text_tokens.specs.First.{kind_of_first, first_value, later_tokens, no_token, kind_number, value_of, Skipped, WordEnds, RunEnds, Passed}
+use Rattle.text_tokens.specs.First.{first_token, later_tokens, Skipped, WordEnds, RunEnds, Passed}
+
+-- Bytes that pass are gone over from place j on: P holds at each place up to the first byte that does not pass, or the text's end, and Q there
+module _ (p : ℕ → Bool) (t : List ℕ) (P Q : ℕ → Type 0) (next : (j : ℕ) → P j → j < length t → p (get_or t j 0) ≡ true → P (j + 1))
+    (stops : (j : ℕ) → P j → p (get_or t j 0) ≡ false → Q j) (ends : (j : ℕ) → P j → length t ≤ j → Q j) where
+  gone_step : (j : ℕ) (b : Bool) → p (get_or t j 0) ≡ b → j < length t → P j → (P (j + 1) → Q (j + 1 + prefix_len p (drop (j + 1) t))) → Q (j + prefix_len p (drop j t))
+  gone_step j true e h q rest =
+      let k : j + 1 + prefix_len p (drop (j + 1) t) ≡ j + prefix_len p (drop j t) = omega (arith, prefix_len-drop_yes p t j 0 h e) in
+      subst Q k (rest (next j q h e))
+  gone_step j false e h q rest = rw (prefix_len-drop_no p t j 0 h e, add-zero) (stops j q e)
+
+  gone_over : (n j : ℕ) → length t - j ≡ n → P j → Q (j + prefix_len p (drop j t))
+  gone_over zero j m q = let h : length t ≤ j = omega arith in rw (prefix_len-drop_all p t j h, add-zero) (ends j q h)
+  gone_over (suc n) j m q = gone_step j (p (get_or t j 0)) refl (omega arith) q (gone_over n (j + 1) (omega arith))
 
 -- Blanks that are passed: no token is, from `from` on, before i
-pub record Skipping (t : List ℕ) (from i : ℕ) : Type 0 where
-  pub onward : from ≤ i
-  pub within : from ≤ length t → i ≤ length t
-  pub same_tokens : tokens_from t i ≡ tokens_from t from
-  pub uncut : cut_at t from ≡ 0 → cut_at t i ≡ 0
+record Skipping (t : List ℕ) (from i : ℕ) : Type 0 where
+  onward : from ≤ i
+  within : from ≤ length t → i ≤ length t
+  same_tokens : tokens_from t i ≡ tokens_from t from
+  uncut : cut_at t from ≡ 0 → cut_at t i ≡ 0
 
-pub skip_starts : (t : List ℕ) (from : ℕ) → Skipping t from from
+skip_starts : (t : List ℕ) (from : ℕ) → Skipping t from from
 skip_starts t from = record { onward = omega arith; within = λ h. h; same_tokens = refl; uncut = λ w. w }
 
 module _ (t : List ℕ) (from i : ℕ) (passed : Skipping t from i) where
-  pub skip_next : (b : Bool) → i < length t → b ≡ is_blank (get_or t i 0) → not b ≡ false → Skipping t from (i + 1)
+  skip_next : i < length t → is_blank (get_or t i 0) ≡ true → Skipping t from (i + 1)
   unfolding tokens_from
-  skip_next b h b-is e =
-      let blank : is_blank (get_or t i 0) ≡ true = sym b-is ∙ not-false b e in
+  skip_next h blank =
       let step = blank_step (get_or t i 0) (drop (suc i) t) blank in
       record {
         onward = omega arith;
@@ -45,42 +64,53 @@ module _ (t : List ℕ) (from i : ℕ) (passed : Skipping t from i) where
         uncut = λ w. uncut_after t i (blank_apart (get_or t i 0) (get_or t (i + 1) 0) blank);
       }
 
-  pub skip_stops : (b : Bool) → b ≡ is_blank (get_or t i 0) → not b ≡ true → Skipped t from i
-  skip_stops b b-is e =
-      record { onward = passed.onward; within = passed.within; same_tokens = passed.same_tokens; no_blank = λ h. sym b-is ∙ not-true b e; uncut = passed.uncut }
+  skip_stops : is_blank (get_or t i 0) ≡ false → Skipped t from i
+  skip_stops e =
+      record { onward = passed.onward; within = passed.within; same_tokens = passed.same_tokens; no_blank = λ h. e; uncut = passed.uncut }
 
-  pub skip_ends : length t ≤ i → Skipped t from i
+  skip_ends : length t ≤ i → Skipped t from i
   skip_ends h = record { onward = passed.onward; within = passed.within; same_tokens = passed.same_tokens; no_blank = λ k. absurd (omega arith); uncut = passed.uncut }
 
--- Letters and digits that are passed
-pub record InWord (t : List ℕ) (from i : ℕ) : Type 0 where
-  pub onward : from ≤ i
-  pub within : i ≤ length t
-  pub word : all is_word_byte (take (i - from) (drop from t)) ≡ true
+pub skipped_lem : (t : List ℕ) (from n : ℕ) → n ≡ length (take_while is_blank (drop from t)) → Skipped t from (from + n)
+skipped_lem t from n e =
+    rw (e, length-prefix_len) (gone_over is_blank t (Skipping t from) (Skipped t from) (λ j s h b. skip_next t from j s h b) (λ j s b. skip_stops t from j s b) (λ j s h. skip_ends t from j s h) (length t - from) from refl (skip_starts t from))
 
-pub word_starts : (t : List ℕ) (from : ℕ) → from ≤ length t → InWord t from from
+-- no more bytes pass than there are
+pub counted_fits : (p : ℕ → Bool) (t : List ℕ) (from n : ℕ) → n ≡ length (take_while p (drop from t)) → from < 2 ^ 64 → length t < 2 ^ 63 → from + n < 2 ^ 64
+counted_fits p t from n e h k = omega (arith, e, length-take (prefix_len p (drop from t)) (drop from t), length-drop from t)
+
+-- Letters and digits that are passed
+record InWord (t : List ℕ) (from i : ℕ) : Type 0 where
+  onward : from ≤ i
+  within : i ≤ length t
+  word : all is_word_byte (take (i - from) (drop from t)) ≡ true
+
+word_starts : (t : List ℕ) (from : ℕ) → from ≤ length t → InWord t from from
 word_starts t from h =
     let k : from - from ≡ 0 = omega arith in
     record { onward = omega arith; within = h; word = rw k }
 
 module _ (t : List ℕ) (from i : ℕ) (passed : InWord t from i) where
-  pub word_next : (b : Bool) → i < length t → b ≡ is_word_byte (get_or t i 0) → not b ≡ false → InWord t from (i + 1)
-  word_next b h b-is e =
+  word_next : i < length t → is_word_byte (get_or t i 0) ≡ true → InWord t from (i + 1)
+  word_next h next =
       let k : i + 1 - from ≡ suc (i - from) = omega arith in
       let j : from + (i - from) ≡ i = omega arith in
-      let next : is_word_byte (get_or t i 0) ≡ true = sym b-is ∙ not-false b e in
       record {
         onward = omega arith;
         within = omega arith;
-        word = rw (k, take-suc (drop from t) (i - from) 0 (rw length-drop (omega arith)), all_append, passed.word, get_or-drop, j, next);
+        word = rw (k, take-suc (drop from t) (i - from) 0 (rw (length-drop from t) (omega arith)), all_append, passed.word, get_or-drop, j, next);
       }
 
-  pub word_stops : (b : Bool) → b ≡ is_word_byte (get_or t i 0) → not b ≡ true → WordEnds t from i
-  word_stops b b-is e =
-      record { onward = passed.onward; within = passed.within; word = passed.word; ended = λ h. sym b-is ∙ not-true b e }
+  word_stops : is_word_byte (get_or t i 0) ≡ false → WordEnds t from i
+  word_stops e =
+      record { onward = passed.onward; within = passed.within; word = passed.word; ended = λ h. e }
 
-  pub word_ends : length t ≤ i → WordEnds t from i
+  word_ends : length t ≤ i → WordEnds t from i
   word_ends h = record { onward = passed.onward; within = passed.within; word = passed.word; ended = λ k. absurd (omega arith) }
+
+pub word_ends_lem : (t : List ℕ) (from n : ℕ) → from ≤ length t → n ≡ length (take_while is_word_byte (drop from t)) → WordEnds t from (from + n)
+word_ends_lem t from n h e =
+    rw (e, length-prefix_len) (gone_over is_word_byte t (InWord t from) (WordEnds t from) (λ j s h b. word_next t from j s h b) (λ j s b. word_stops t from j s b) (λ j s h. word_ends t from j s h) (length t - from) from refl (word_starts t from h))
 
 -- The run from i on with the text after it
 run_is : (t : List ℕ) (i n e : ℕ) → i + suc n ≡ e → e ≤ length t → goes_on (get_or t (i + n) 0) (get_or t e 0) ≡ false
@@ -172,23 +202,19 @@ module _ (t : List ℕ) (from i : ℕ) (skipped : Skipped t from i) where
     no_token_lem = sym skipped.same_tokens ∙ rw (drop_of_length-le t h)
 
     pub passed_none : from ≤ length t → Passed t from i
-    unfolding later_tokens kind_of_first
+    unfolding later_tokens
     passed_none g =
         record {
           onward = skipped.onward;
-          further = λ some. absurd (some (rw no_token_lem));
+          further = λ some. absurd (some no_token_lem);
           within = skipped.within g;
           later = skipped.same_tokens ∙ rw no_token_lem;
           uncut = uncut_end t i h;
         }
 
-    pub kind_none : no_token ≡ kind_of_first (tokens_from t from)
-    unfolding kind_of_first
-    kind_none = rw no_token_lem
-
-    pub value_none : 0 ≡ first_value (tokens_from t from)
-    unfolding first_value
-    value_none = rw no_token_lem
+    pub token_none : None ≡ first_token (tokens_from t from)
+    unfolding first_token
+    token_none = rw no_token_lem
 
   module _ (e : ℕ) (run : RunEnds t i e) where
     first_token_lem : tokens_from t from ≡ token_of (take (e - i) (drop i t)) ∷ tokens_from t e
@@ -199,10 +225,6 @@ module _ (t : List ℕ) (from i : ℕ) (skipped : Skipped t from i) where
     passed_one =
         record { onward = omega arith; further = λ some. omega arith; within = run.within; later = rw first_token_lem; uncut = run.uncut }
 
-    pub kind_first : (k : ℕ) → k ≡ kind_number (token_of (take (e - i) (drop i t))) → k ≡ kind_of_first (tokens_from t from)
-    unfolding kind_of_first
-    kind_first k k-is = k-is ∙ rw first_token_lem
-
-    pub value_first : (v : ℕ) → v ≡ value_of (token_of (take (e - i) (drop i t))) → v ≡ first_value (tokens_from t from)
-    unfolding first_value
-    value_first v v-is = v-is ∙ rw first_token_lem
+    pub token_first : (k : Token) → k ≡ token_of (take (e - i) (drop i t)) → Some k ≡ first_token (tokens_from t from)
+    unfolding first_token
+    token_first k k-is = ap Some k-is ∙ rw first_token_lem

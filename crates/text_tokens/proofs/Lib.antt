@@ -1,4 +1,3 @@
 pub mod Ends
 pub mod Decimals
 pub mod Classes
-pub mod Values

@@ -64,29 +64,41 @@ impl Code {
         value
     }
 
-    /// The cases of an enum.
-    pub fn cases(&self, name: &str) -> Vec<String> {
+    /// The cases of an enum, each with its number: the one that it is given, or the next.
+    pub fn cases(&self, name: &str) -> Vec<(String, u64)> {
         let body = between(&self.text, &format!("pub enum {name} {{"), "}");
         let cases = body.split(',').map(str::trim);
+        let mut next = 0;
         cases
             .filter(|case| !case.is_empty())
-            .map(str::to_string)
+            .map(|case| {
+                let (name, number) = match case.split_once(" = ") {
+                    Some((name, number)) => (name, self.value(number)),
+                    None => (case, next),
+                };
+                next = number + 1;
+                (name.to_string(), number)
+            })
             .collect()
     }
 
-    /// What a function that is one match answers for each case that carries nothing.
+    /// What a function that is one match answers for each pattern that binds nothing, by the pattern's innermost case.
     pub fn arms(&self, function: &str) -> Vec<(String, u64)> {
         let body = between(&self.text, &format!("pub fn {function}("), "\n}");
         let arms = body
             .lines()
             .filter_map(|line| line.trim().split_once(" => "));
-        arms.filter(|(pattern, _)| !pattern.contains('('))
-            .map(|(pattern, answer)| {
-                let case = pattern.rsplit("::").next().unwrap_or(pattern);
-                (case.to_string(), self.value(answer.trim_end_matches(',')))
-            })
+        arms.map(|(pattern, answer)| (innermost(pattern), answer.trim_end_matches(',')))
+            .filter(|(case, _)| case.starts_with(char::is_uppercase))
+            .map(|(case, answer)| (case.to_string(), self.value(answer)))
             .collect()
     }
+}
+
+/// What stands innermost in a pattern: `Running` in `Ok(Progress::Running)`.
+fn innermost(pattern: &str) -> &str {
+    let inside = pattern.trim_end_matches(')');
+    inside.rsplit(['(', ':']).next().unwrap_or(inside)
 }
 
 /// What stands between the only place with this front and the next end.
@@ -126,7 +138,7 @@ fn tokens_of(expression: &str) -> Vec<String> {
     tokens
 }
 
-/// Reads an expression of numbers, names, `+`, `-`, `*`, brackets and `as`.
+/// Reads an expression of numbers, names, `+`, `-`, `*`, brackets, `as` and the `from` of a type of numbers.
 struct Reader<'a> {
     code: &'a Code,
     tokens: Vec<String>,
@@ -192,6 +204,9 @@ impl Reader<'_> {
             return token.replace('_', "").parse().expect("a decimal number");
         }
         let name = token.rsplit("::").next().unwrap_or(&token);
+        if name == "from" && token.starts_with('u') {
+            return self.atom();
+        }
         self.code.constant(name)
     }
 }

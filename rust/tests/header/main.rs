@@ -19,6 +19,9 @@ use macros::{evaluate, object_macros};
 /// Constants of the proved code that a board has no use for.
 const NOT_FOR_BOARDS: [&str; 2] = ["MAX_MARKS", "BYTE_VALUES"];
 
+/// Enums of the proved code whose cases have numbers in the header.
+const ENUMS: [&str; 3] = ["Refusal", "Kind", "Test"];
+
 /// Macros that only C has.
 const ONLY_IN_C: [&str; 2] = ["VERSION_MAJOR", "VERSION_MINOR"];
 
@@ -35,17 +38,19 @@ fn name_in_header(constant: &str) -> String {
     }
 }
 
-/// The numbers of the refusals in the proved code, by their names in the header.
-fn refusals_of(code: &Code) -> Numbers {
-    let arms = code.arms("refusal_number");
-    arms.into_iter()
+/// The numbers of an enum's cases in the proved code, by their names in the header, where 0 stands for no case.
+fn cases_of(code: &Code, name: &str) -> Numbers {
+    let cases = code.cases(name);
+    cases
+        .into_iter()
+        .filter(|(_, number)| *number != 0)
         .map(|(case, number)| (upper_case(&case), number))
         .collect()
 }
 
 /// The numbers of the proved code that a board has a use for, by their names in the header.
 fn numbers_of(code: &Code) -> Numbers {
-    let mut numbers = refusals_of(code);
+    let mut numbers: Numbers = ENUMS.iter().flat_map(|name| cases_of(code, name)).collect();
     for (case, number) in code.arms("settle_number") {
         numbers.insert(upper_case(&case), number);
     }
@@ -65,7 +70,7 @@ fn agreed(code: &Code) -> u64 {
     let [(case, answer)] = &arms[..] else {
         panic!("one answer without a value, not {arms:?}");
     };
-    assert_eq!(case, "Agreed");
+    assert_eq!(case, "None");
     *answer
 }
 
@@ -184,7 +189,7 @@ fn refusals_of_the_proved_code() {
     let cases: Vec<String> = code
         .cases("Refusal")
         .iter()
-        .map(|case| upper_case(case))
+        .map(|(case, _)| upper_case(case))
         .collect();
     let names: Vec<&str> = refusals::ALL.iter().map(|(name, _)| *name).collect();
     assert_eq!(cases, names);
@@ -192,7 +197,7 @@ fn refusals_of_the_proved_code() {
         .iter()
         .map(|(name, number)| (name.to_string(), u64::from(*number)))
         .collect();
-    assert_eq!(refusals_of(&code), numbers);
+    assert_eq!(cases_of(&code, "Refusal"), numbers);
 }
 
 /// Every number in the header is the papers', and each of these stands in the header.

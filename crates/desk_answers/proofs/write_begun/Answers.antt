@@ -1,20 +1,10 @@
 -- `write_begun` meets its contract: each answer has its line.
-use Rattle.desk_format.proofs.Texts.{same_room, same_text}
+use Rattle.desk_format.proofs.Pages.{adds_same}
 use Rattle.desk_answers.proofs.Answering.{begun_done_text, begun_refused_text}
 use Rattle.desk_answers.proofs.write_begun.Goals as goal
 
-pub write_word-requires : goal.write_word-requires
-write_word-requires c =
-    same_room _ (begun_done_text c.in-Done.is) c.requires
+pub returns-in-Ok : goal.returns-in-Ok
+returns-in-Ok c = adds_same (begun_done_text c.in-Ok.is) c.word.ensures
 
-pub write_refused-requires : goal.write_refused-requires
-write_refused-requires c =
-    same_room _ (begun_refused_text c.in-Refused.is) c.requires
-
-pub returns-in-Done : goal.returns-in-Done
-returns-in-Done c =
-    same_text (begun_done_text c.in-Done.is) c.write_word.ensures
-
-pub returns-in-Refused : goal.returns-in-Refused
-returns-in-Refused c =
-    same_text (begun_refused_text c.in-Refused.is) c.write_refused.ensures
+pub returns-in-Err : goal.returns-in-Err
+returns-in-Err c = adds_same (begun_refused_text c.in-Err.is) c.write_refused.ensures

@@ -1,18 +1,8 @@
 -- `write_line_fault` meets its contract: the word, then the number, then the rest.
-use Rattle.desk_format.proofs.Texts.{first_room, second_room, third_room, three_written}
-use Rattle.desk_answers.proofs.Answering.{line_pieces}
+use Rattle.desk_format.proofs.Pages.{adds_append}
+use Rattle.desk_answers.specs.Answers.{line_text}
 use Rattle.desk_answers.proofs.write_line_fault.Goals as goal
 
-pub write_word-j-requires : goal.write_word-j-requires
-write_word-j-requires c = first_room _ c.requires (line_pieces _)
-
-pub write_number-k-requires : goal.write_number-k-requires
-write_number-k-requires c =
-    second_room c.requires (line_pieces _) c.write_word-j.ensures
-
-pub write_word-requires : goal.write_word-requires
-write_word-requires c =
-    third_room c.requires (line_pieces _) c.write_word-j.ensures c.write_number-k.ensures
-
 pub returns : goal.returns
-returns c = search (three_written, line_pieces)
+unfolding line_text
+returns c = adds_append c.word.ensures (adds_append c.number.ensures c.word-2.ensures)

@@ -2,11 +2,11 @@
 use Rattle.desk_assembly.proofs.Assembles.{place_inside, assembled_done, assembled_refused}
 use Rattle.desk_assembly.proofs.assemble_text.Goals as goal
 
-pub write_words-requires : goal.write_words-requires
-write_words-requires c = search place_inside
+pub write_words-length-requires : goal.write_words-length-requires
+write_words-length-requires c = search place_inside
 
-pub returns-in-Done : goal.returns-in-Done
-returns-in-Done c = search assembled_done
+pub returns-in-Ok : goal.returns-in-Ok
+returns-in-Ok c = search assembled_done
 
-pub returns-in-Refused : goal.returns-in-Refused
-returns-in-Refused c = search assembled_refused
+pub returns-in-Err : goal.returns-in-Err
+returns-in-Err c = search assembled_refused

@@ -1,13 +1,19 @@
--- `spaces` meets its contract: at each turn the places passed and the spaces that are left are all the spaces.
+-- `spaces` meets its contract: the first byte that is no space ends them.
+use Prim.Native.Nat.{ℕ}
+use mathlib.Core.Path.{◌∙◌}
+use mathlib.Core.Bool.{not}
+use lib.Dec.{eqb}
 use borrow.Author.Rules.{rules}
-use Rattle.desk_parse.proofs.Leading.{space_next, space_stops, space_ends}
+use borrow.Author.Tests.{tests}
+use Rattle.std.proofs.lemmas.Iterator.{YieldsList-from_slice}
+use Rattle.std.proofs.lemmas.Iterator.Search.{position_from_yields_List}
+use Rattle.desk_parse.specs.Words.{is_space}
+use Rattle.desk_parse.proofs.Leading.{leading_found}
 use Rattle.desk_parse.proofs.spaces.Goals as goal
 
-pub returns-then-s-i-ne32 : goal.returns-then-s-i-ne32
-returns-then-s-i-ne32 c = search space_stops
-
-pub loop-i-preserved : goal.loop-i-preserved
-loop-i-preserved c = (search rules, search space_next)
-
 pub returns : goal.returns
-returns c = search space_ends
+returns c =
+    let s = c.args.s.now in
+    let f = λ (x : ℕ). not (eqb x 32) in
+    let at = position_from_yields_List f _ _ c.position.result c.position.ensures.ran (YieldsList-from_slice s cc) (λ x b q k. search (rules, tests)) in
+    c.unwrap_or.ensures ∙ leading_found is_space f (λ x. search rules) s c.position.result at

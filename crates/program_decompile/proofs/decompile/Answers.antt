@@ -1,20 +1,21 @@
--- `decompile` meets its contract: one law of Operations for each answer.
-use Rattle.program_decompile.proofs.Decompiling.{decompile_refused, decompile_short, write_fits, decompile_done}
+-- `decompile` meets its contract: one law of Decompiling for each answer.
+use mathlib.Core.List.{List}
+use Prim.Native.Nat.{ℕ}
 use mathlib.Core.Path.{ap}
-use mathlib.Core.Bool.{not}
+use denote.Ref.{Bor}
+use Rattle.std.proofs.lemmas.Result.{err_from_is_err_and}
+use Rattle.program_decompile.proofs.Decompiling.{decompile_refused, decompile_short, decompile_done}
 use Rattle.program_decompile.proofs.decompile.Goals as goal
 
-pub returns-then-not-is_table : goal.returns-then-not-is_table
-returns-then-not-is_table c = decompile_refused _ _ _ c.is_table.ensures (ap not c.if-not-is_table.true)
+pub returns-in_err-checked : goal.returns-in_err-checked
+returns-in_err-checked c =
+    let p = err_from_is_err_and c.from_residual.result c.from_residual.ensures.1 in
+    rw (p.1, p.2, c.in_err-checked.ensures.err.0) (decompile_refused _ _ c.in_err-checked.ensures.err.1)
 
 pub returns-then-file-length_of : goal.returns-then-file-length_of
 returns-then-file-length_of c =
-    decompile_short _ _ _ c.is_table.ensures _ _ (ap not c.if-not-is_table.false) c.parts.ensures c.length_of.ensures c.if-file-length_of.true
-
-pub write_file-requires-clause-table_in_bounds : goal.write_file-requires-clause-table_in_bounds
-write_file-requires-clause-table_in_bounds c =
-    (write_fits _ _ _ _ _ c.is_table.ensures (ap not c.if-not-is_table.false) c.parts.ensures c.length_of.ensures c.if-file-length_of.false).0
+    rw (ap (λ (b : Bor (List ℕ)). b.now) c.in_ok-checked.ensures.ok) at (decompile_short _ _ c.in_ok-checked.checked.checked _ _ c.parts.ensures c.length_of.ensures c.if-file-length_of.true)
 
 pub returns : goal.returns
 returns c =
-    decompile_done _ _ _ c.is_table.ensures _ _ (ap not c.if-not-is_table.false) c.parts.ensures c.length_of.ensures _ c.if-file-length_of.false c.write_file.ensures
+    rw (ap (λ (b : Bor (List ℕ)). b.now) c.in_ok-checked.ensures.ok) at (decompile_done _ _ c.in_ok-checked.checked.checked _ _ c.parts.ensures c.length_of.ensures _ c.if-file-length_of.false c.write_file.ensures)

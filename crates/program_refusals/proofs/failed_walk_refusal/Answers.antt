@@ -11,4 +11,4 @@ returns-then-not-is_one_tree c =
 
 pub returns : goal.returns
 returns c =
-    depth_refused File _ _ c.kinds_known.ensures (ap not c.if-not-kinds_known.false) _ c.operands_allowed.ensures (ap not c.if-not-operands_allowed.false) _ c.is_one_tree.ensures (ap not c.if-not-is_one_tree.false) c.requires.fact
+    depth_refused File _ _ c.kinds_known.ensures (ap not c.if-not-kinds_known.false) _ c.operands_allowed.ensures (ap not c.if-not-operands_allowed.false) _ c.is_one_tree.ensures (ap not c.if-not-is_one_tree.false) c.requires

@@ -6,4 +6,4 @@ use Rattle.program_refusals.proofs.parts_refusal.Goals as goal
 
 pub returns-then-root_extent-parts : goal.returns-then-root_extent-parts
 returns-then-root_extent-parts c =
-    parts_pass File _ any_end _ _ c.root_extent.ensures c.parts.ensures c.requires.bound c.if-root_extent-parts.true
+    parts_pass File _ any_end _ _ c.root_extent.ensures c.parts.ensures c.requires c.if-root_extent-parts.true

@@ -15,8 +15,8 @@ pub returns-then-s-length_of : goal.returns-then-s-length_of
 returns-then-s-length_of c =
     length_refused File _ _ _ _ c.if-s-lt-HEADER.false c.sizes_allowed.ensures (ap not c.if-not-sizes_allowed.false) c.parts.ensures c.length_of.ensures c.if-s-length_of.true
 
-pub parts_refusal-requires-clause-bound : goal.parts_refusal-requires-clause-bound
-parts_refusal-requires-clause-bound c =
+pub parts_refusal-requires : goal.parts_refusal-requires
+parts_refusal-requires c =
     search has_parts_lem
 
 pub returns : goal.returns

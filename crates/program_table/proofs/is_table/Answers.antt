@@ -19,12 +19,12 @@ pub returns-then-parts_end-parts : goal.returns-then-parts_end-parts
 returns-then-parts_end-parts c =
     ends_refused _ _ _ _ c.if-table-lt-HEADER.false c.sizes_allowed.ensures (ap not c.if-not-sizes_allowed.false) c.parts.ensures c.length_of.ensures c.if-table-length_of.false _ _ c.parts_end.ensures c.parts-2.ensures c.if-parts_end-parts.true
 
-pub rows_match-requires-clause-readable : goal.rows_match-requires-clause-readable
-rows_match-requires-clause-readable c =
+pub invariant_of-rows_match-clause-readable : goal.invariant_of-rows_match-clause-readable
+invariant_of-rows_match-clause-readable c =
     record { long = search rules; there = has_parts_lem _ _ c.sizes_allowed.ensures (ap not c.if-not-sizes_allowed.false) }
 
-pub rows_match-requires-clause-ending : goal.rows_match-requires-clause-ending
-rows_match-requires-clause-ending c =
+pub invariant_of-rows_match-clause-ending : goal.invariant_of-rows_match-clause-ending
+invariant_of-rows_match-clause-ending c =
     ends_found _ _ _ _ c.if-table-lt-HEADER.false c.sizes_allowed.ensures (ap not c.if-not-sizes_allowed.false) c.parts.ensures c.length_of.ensures c.if-table-length_of.false _ _ c.parts_end.ensures c.parts-2.ensures c.if-parts_end-parts.false
 
 pub returns : goal.returns

@@ -5,11 +5,13 @@ use Rattle.desk_assembly.proofs.Assembles.{file_inside, words_inside}
 use Rattle.rehearse.proofs.rehearse_text.Goals as goal
 
 pub slice_bounds-file-end : goal.slice_bounds-file-end
-slice_bounds-file-end c = search file_inside
+slice_bounds-file-end c = file_inside _ _ _ _ _ _ c.assemble_text.ensures _ c.in-Ok.is
 
 pub slice_bounds-rehearse_program-end : goal.slice_bounds-rehearse_program-end
-slice_bounds-rehearse_program-end c =
-    simp length-take (omega (arith, file_inside _ _ _ _ _ _ c.assemble_text-assembly.ensures c.in-Done.is))
+slice_bounds-rehearse_program-end c = simp length-take (omega (arith, file_inside _ _ _ _ _ _ c.assemble_text.ensures _ c.in-Ok.is))
 
-pub print_error-requires : goal.print_error-requires
-print_error-requires c = omega (arith, words_inside _ _ _ _ _ _ c.assemble_text-assembly.ensures _ c.in-Refused.is)
+pub slice_bounds-words-end : goal.slice_bounds-words-end
+slice_bounds-words-end c = omega (arith, words_inside _ _ _ _ _ _ c.assemble_text.ensures _ c.in-Err.is)
+
+pub slice_bounds-print_error-end : goal.slice_bounds-print_error-end
+slice_bounds-print_error-end c = simp length-take (omega (arith, words_inside _ _ _ _ _ _ c.assemble_text.ensures _ c.in-Err.is))

@@ -1,5 +1,6 @@
 -- `start_clocks` meets its contract. The loop's invariant: what the parts that are left make of the record as it is now is what all parts make of it as it was.
 use mathlib.Core.Path.{◌∙◌}
+use borrow.Author.Rules.{rules}
 use Rattle.run_clocks.proofs.Starting.{parts_step, parts_started_end}
 use Rattle.run_clocks.proofs.Pass.{clocks_made}
 use Rattle.run_clocks.proofs.start_clocks.Goals as goal
@@ -10,4 +11,4 @@ loop-p-preserved c =
 
 pub returns : goal.returns
 returns c =
-    clocks_made _ _ c.requires.t_value c.requires.record_length_in_bounds (λ i. (c.slice_known-1.given i).fits) _ _ c.last_time-time.ensures (search parts_started_end)
+    clocks_made _ _ c.args.t.checked c.requires (search rules) _ _ c.last_time-time.ensures (search parts_started_end)

@@ -7,7 +7,7 @@ use Rattle.run_clocks.specs.Starting.{parts_started}
 use Rattle.run_clocks.proofs.start_clocks.Given as goal
 
 abbrev pub invariant-loop-p : goal.invariant-loop-p
-invariant-loop-p l = (length l.r ≡ length l.initial.r) × (parts_started l.t l.time l.p (parts l.t - l.p) l.r ≡ parts_started l.t l.time 0 (parts l.t) l.initial.r)
+invariant-loop-p l = (length l.r ≡ length l.initial.r) × (parts_started l.t.bytes.now l.time l.p (parts l.t.bytes.now - l.p) l.r ≡ parts_started l.t.bytes.now l.time 0 (parts l.t.bytes.now) l.initial.r)
 
 abbrev pub decreases-loop-p : goal.decreases-loop-p
 decreases-loop-p l = l.p-end - l.p

@@ -1,21 +1,22 @@
 -- `start_part` meets its contract: a marked START starts its clock, any other part nothing.
-use Rattle.program_part.proofs.Places.{row_readable}
+use borrow.Author.Rules.{rules}
 use Rattle.run_record.proofs.Marks.{mark_inside}
-use Rattle.run_clocks.proofs.Starting.{clock_named, part_starts, part_rests}
+use Rattle.run_clocks.proofs.Starting.{clock_named, part_starts, part_unmarked, part_other}
 use Rattle.run_clocks.proofs.start_part.Goals as goal
+use Rattle.run_clocks.proofs.start_part.Goals.{else-eq-via-then-eq+else-marked, else-eq-via-else-eq}
 
-pub entry_at-part-requires : goal.entry_at-part-requires
-entry_at-part-requires c = search row_readable
-
-pub is_marked-requires : goal.is_marked-requires
-is_marked-requires c = search mark_inside
+pub is_marked-marked-requires : goal.is_marked-marked-requires
+is_marked-marked-requires c =
+    mark_inside _ c.args.t.checked _ _ c.requires.record_length_in_bounds c.requires.p_bound
 
 pub start_clock-requires-clause-c_lt_max_clocks : goal.start_clock-requires-clause-c_lt_max_clocks
 start_clock-requires-clause-c_lt_max_clocks c =
-    search clock_named
+    clock_named _ _ _ _ c.args.t.checked c.requires.p_bound c.kind.ensures (search rules) c.entry.ensures
 
-pub returns-then-is_marked-part : goal.returns-then-is_marked-part
-returns-then-is_marked-part c = search part_starts
+pub returns-then-marked : goal.returns-then-marked
+returns-then-marked c =
+    part_starts _ _ _ _ _ c.is_marked-marked.ensures _ _ _ c.if-marked.true c.kind.ensures (search rules) c.entry.ensures c.start_clock.ensures
 
-pub returns-else-is_marked-part : goal.returns-else-is_marked-part
-returns-else-is_marked-part c = search part_rests
+pub returns-else-eq : goal.returns-else-eq
+returns-else-eq c =
+    elim c.else-eq.branch [ else-eq-via-then-eq+else-marked w ↦ part_unmarked _ _ _ _ _ c.is_marked-marked.ensures w.if-marked.false | else-eq-via-else-eq w ↦ part_other _ _ _ _ _ c.is_marked-marked.ensures _ c.kind.ensures (search rules) ]

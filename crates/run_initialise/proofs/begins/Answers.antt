@@ -1,10 +1,6 @@
--- `begins` meets its contract: the kind of p's parent decides.
-use Rattle.program_part.proofs.Places.{row_readable}
-use Rattle.run_initialise.proofs.Initialising.{parent_row_readable}
+-- `begins` meets its contract: the kind of p's parent, which stands in the table, decides.
+use Rattle.run_initialise.proofs.Initialising.{parent_there}
 use Rattle.run_initialise.proofs.begins.Goals as goal
 
-pub parent_at-q-requires : goal.parent_at-q-requires
-parent_at-q-requires c = search row_readable
-
-pub entry_at-parent-requires : goal.entry_at-parent-requires
-entry_at-parent-requires c = search parent_row_readable
+pub kind-requires : goal.kind-requires
+kind-requires c = parent_there _ _ _ c.args.t.checked c.requires.p_nonzero c.requires.p_bound c.parent-q.ensures

@@ -1,16 +1,17 @@
 -- `initialise` meets its contract. The loop's invariant: the marks still to come, stored onto what is there now, give the whole.
-use mathlib.Core.Path.{◌∙◌}
+use native.Mathlib.Omega.{arith}
+use mathlib.Core.Path.{refl, ◌∙◌}
 use borrow.Author.Rules.{rules}
-use Rattle.program_part.proofs.Places.{row_readable}
+use Rattle.program_part.proofs.Places.{parts_fit}
 use Rattle.run_initialise.proofs.Initialising.{turn_there, initial_starts, initial_next, initial_ends}
 use Rattle.run_initialise.proofs.initialise.Goals as goal
 
-pub end_at-p-end-requires : goal.end_at-p-end-requires
-end_at-p-end-requires c = search row_readable
+pub overflow_step-p : goal.overflow_step-p
+overflow_step-p c = omega (arith, parts_fit _ c.args.t.checked, c.requires.q_bound)
 
 pub initialise_step-skip-requires-clause-p_bound : goal.initialise_step-skip-requires-clause-p_bound
 initialise_step-skip-requires-clause-p_bound c =
-    turn_there _ _ c.requires.t_value c.requires.q_bound _ _ c.end_at-p-end.ensures c.loop-p-test.true
+    turn_there _ _ c.args.t.checked c.requires.q_bound _ _ c.end-p-end.ensures c.loop-p-test.true
 
 pub loop-p-preserved : goal.loop-p-preserved
 loop-p-preserved c = (
@@ -24,4 +25,4 @@ loop-p-preserved c = (
 pub returns : goal.returns
 returns c =
     initial_ends _ _ _ _ _ _ _ c.loop-p-test.false c.loop-p.invariant.1.1
-    ∙ initial_starts _ _ _ _ _ _ _ c.index.ensures c.end_at-p-end.ensures c.store.ensures
+    ∙ initial_starts _ _ _ _ _ _ _ c.from.ensures c.end-p-end.ensures refl

@@ -7,7 +7,7 @@ use Rattle.meaning.specs.Cycle.{initial_marks_from}
 use Rattle.run_initialise.proofs.initialise.Given as goal
 
 abbrev pub invariant-loop-p : goal.invariant-loop-p
-invariant-loop-p l = (l.q < l.p) × ((length l.m ≡ length l.initial.m) × (sets l.m (l.from + l.p) (initial_marks_from l.t l.p (l.p-end - l.p) l.skip) ≡ sets l.initial.m (l.from + l.initial.p) (initial_marks_from l.t l.initial.p (l.p-end - l.initial.p) l.initial.skip)))
+invariant-loop-p l = (l.q < l.p) × ((length l.m ≡ length l.initial.m) × (sets l.m (l.from + l.p) (initial_marks_from l.t.bytes.now l.p (l.p-end - l.p) l.skip) ≡ sets l.initial.m (l.from + l.initial.p) (initial_marks_from l.t.bytes.now l.initial.p (l.p-end - l.initial.p) l.initial.skip)))
 
 abbrev pub decreases-loop-p : goal.decreases-loop-p
 decreases-loop-p l = l.p-end - l.p

@@ -1,5 +1,4 @@
 -- `initialise_step` meets its contract: one law for each way that a part's turn goes.
-use Rattle.program_part.proofs.Places.{row_readable}
 use Rattle.run_initialise.proofs.Initialising.{turn_passed, turn_begins, turn_idle}
 use Rattle.run_initialise.proofs.initialise_step.Goals as goal
 
@@ -8,9 +7,6 @@ returns-then-skip-gt0 c = search turn_passed
 
 pub returns-then-begins : goal.returns-then-begins
 returns-then-begins c = search turn_begins
-
-pub inside_of-requires : goal.inside_of-requires
-inside_of-requires c = search row_readable
 
 pub returns : goal.returns
 returns c = search turn_idle

@@ -1,17 +1,16 @@
 -- `commit` meets its contract: phase and estimate stand apart from the clocks, so that it does not matter which are stored first.
-use native.Mathlib.Omega.{arith}
-use lib.ListN.{length}
-use Rattle.run_settle.proofs.Committing.{estimate_fit, marks_fit, record_committed}
+use mathlib.Core.Path.{◌∙◌}
+use Rattle.run_settle.proofs.Committing.{estimate_room, marks_room, record_committed}
 use Rattle.run_settle.proofs.commit.Goals as goal
 
-pub copy_inside-requires-clause-n_in_bounds : goal.copy_inside-requires-clause-n_in_bounds
-copy_inside-requires-clause-n_in_bounds c =
-    (estimate_fit _ _ _ _ (length c.store.new.s) c.requires.t_value c.requires.est_value c.variables.ensures c.wide.ensures (omega (arith, c.requires.record_length_in_bounds, c.start_clocks.auto, c.store.auto))).0
+pub slice_bounds-copy_over-end : goal.slice_bounds-copy_over-end
+slice_bounds-copy_over-end c =
+    estimate_room _ _ _ _ c.args.t.checked c.requires.est_value c.requires.m_value _ _ c.requires.record_length_in_bounds c.start_clocks.auto.r
 
-pub copy_inside-requires-2-clause-n_in_bounds_2 : goal.copy_inside-requires-2-clause-n_in_bounds_2
-copy_inside-requires-2-clause-n_in_bounds_2 c =
-    (marks_fit _ _ _ _ (length c.copy_inside.new.dst) c.requires.t_value c.requires.t_in_bounds c.parts.ensures c.index.ensures (omega (arith, c.requires.record_length_in_bounds, c.start_clocks.auto, c.store.auto, c.copy_inside.auto))).1
+pub slice_bounds-copy_over-end-3 : goal.slice_bounds-copy_over-end-3
+slice_bounds-copy_over-end-3 c =
+    marks_room _ _ _ _ c.args.t.checked c.requires.est_value c.requires.m_value _ _ c.requires.record_length_in_bounds c.start_clocks.auto.r _ c.copy_over.ensures _ (c.from-parts.ensures ∙ c.parts.ensures)
 
 pub returns : goal.returns
 returns c =
-    record_committed _ _ _ _ c.requires.t_value c.requires.est_value c.requires.t_value_2 _ _ _ _ _ _ _ _ _ c.start_clocks.ensures c.phase_after.ensures c.store.ensures c.variables.ensures c.wide.ensures c.copy_inside.ensures c.parts.ensures c.index.ensures c.copy_inside-2.ensures
+    record_committed _ _ _ _ c.args.t.checked c.requires.est_value c.requires.m_value _ _ c.requires.record_length_in_bounds c.start_clocks.auto.r _ c.copy_over.ensures _ (c.from-parts.ensures ∙ c.parts.ensures) _ c.requires.t_in_bounds c.copy_over-2.ensures c.start_clocks.ensures c.phase_after.ensures

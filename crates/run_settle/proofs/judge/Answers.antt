@@ -1,38 +1,35 @@
 -- `judge` meets its contract: one law of Answering for each answer.
-use Rattle.run_settle.proofs.Answering.{is_long, is_estimate, is_room, room_still, judged_early, settling_is_table, judged_done, judged_stuck}
+use mathlib.Core.Path.{◌∙◌}
+use Rattle.std.proofs.lemmas.Result.{err_from_is_err_and}
+use Rattle.run_settle.proofs.Answering.{judged_early, is_estimate, is_room, judged_done, judged_stuck}
 use Rattle.run_settle.proofs.judge.Goals as goal
 
-pub returns-in_default : goal.returns-in_default
-returns-in_default c = search judged_early
+pub returns-in_err-table-clause-refused : goal.returns-in_err-table-clause-refused
+returns-in_err-table-clause-refused c =
+    let p = err_from_is_err_and c.from_residual.result c.from_residual.ensures.1 in
+    rw (p.1, p.2) (judged_early _ _ _ _ _ c.in_err-table.ensures.refused)
 
-pub settle_marks-requires-clause-t_value : goal.settle_marks-requires-clause-t_value
-settle_marks-requires-clause-t_value c =
-    search settling_is_table
+pub invariant_of-settling : goal.invariant_of-settling
+invariant_of-settling c =
+    let run = c.in_ok-table.ensures.ok in
+    record { estimated = rw run.0 (is_estimate _ _ _ run.2) }
 
-pub settle_marks-requires-clause-record_length_in_bounds : goal.settle_marks-requires-clause-record_length_in_bounds
-settle_marks-requires-clause-record_length_in_bounds c =
-    search is_long
+pub store_marks-requires : goal.store_marks-requires
+store_marks-requires c =
+    let run = c.in_ok-table.ensures.ok in
+    rw run.0 (is_room _ _ _ run.2 _ c.requires)
 
-pub settle_marks-requires-clause-t_in_bounds : goal.settle_marks-requires-clause-t_in_bounds
-settle_marks-requires-clause-t_in_bounds c =
-    search is_estimate
+pub invariant_of-may_be_left : goal.invariant_of-may_be_left
+invariant_of-may_be_left c =
+    let run = c.in_ok-table.ensures.ok in
+    record { long = rw run.0 (is_room _ _ _ run.2 _ (c.store_marks.auto.m ∙ c.requires)) }
 
-pub settle_marks-requires-clause-t_in_bounds_2 : goal.settle_marks-requires-clause-t_in_bounds_2
-settle_marks-requires-clause-t_in_bounds_2 c =
-    search is_room
+pub returns-then-may_be_left-clause-ok : goal.returns-then-may_be_left-clause-ok
+returns-then-may_be_left-clause-ok c =
+    let run = c.in_ok-table.ensures.ok in
+    (run.0, judged_done _ _ _ run.2 _ _ _ c.requires (rw (run.0, run.1) at c.store_marks.ensures) (rw run.0 at c.may_be_left.ensures) c.if-may_be_left.true)
 
-pub works-requires-clause-t_value : goal.works-requires-clause-t_value
-works-requires-clause-t_value c =
-    search settling_is_table
-
-pub works-requires-clause-t_in_bounds : goal.works-requires-clause-t_in_bounds
-works-requires-clause-t_in_bounds c =
-    search room_still
-
-pub returns-then-at-works : goal.returns-then-at-works
-returns-then-at-works c =
-    judged_done _ _ _ _ c.early_refusal-answer.ensures c.in-Done.is _ _ _ _ c.requires c.settle_marks.ensures c.at.ensures c.works.ensures c.if-at-works.true
-
-pub returns-else-at-works : goal.returns-else-at-works
-returns-else-at-works c =
-    judged_stuck _ _ _ _ c.early_refusal-answer.ensures c.in-Done.is _ _ _ _ c.requires c.settle_marks.ensures c.at.ensures c.works.ensures c.if-at-works.false
+pub returns-else-may_be_left-clause-refused : goal.returns-else-may_be_left-clause-refused
+returns-else-may_be_left-clause-refused c =
+    let run = c.in_ok-table.ensures.ok in
+    judged_stuck _ _ _ run.2 _ _ _ c.requires (rw (run.0, run.1) at c.store_marks.ensures) (rw run.0 at c.may_be_left.ensures) c.if-may_be_left.false

@@ -1,37 +1,32 @@
 -- `settle` meets its contract: one law of Answering for each answer.
 use native.Mathlib.Omega.{arith}
+use Rattle.std.proofs.lemmas.Result.{err_from_is_err_and}
 use Rattle.program_part.proofs.Places.{parts_fit}
-use Rattle.run_settle.proofs.Answering.{settled_refused, to_commit, settled_finished, settled_running}
+use Rattle.run_settle.proofs.Answering.{settled_refused, commit_long, commit_estimate, settled_finished, settled_running}
 use Rattle.run_settle.proofs.settle.Goals as goal
 
-pub returns-in-Refused : goal.returns-in-Refused
-returns-in-Refused c =
-    settled_refused _ _ _ _ _ _ c.judge-answer.ensures c.in-Refused.is
-
-pub commit-requires-clause-t_value : goal.commit-requires-clause-t_value
-commit-requires-clause-t_value c =
-    let x = to_commit _ _ _ _ _ c.judge-answer.ensures c.in_default.is in
-    x.0
+pub returns-in_err-table : goal.returns-in_err-table
+returns-in_err-table c =
+    let p = err_from_is_err_and c.from_residual.result c.from_residual.ensures.1 in
+    rw (p.1, p.2) (settled_refused _ _ _ _ _ c.in_err-table.ensures.refused)
 
 pub commit-requires-clause-record_length_in_bounds : goal.commit-requires-clause-record_length_in_bounds
-commit-requires-clause-record_length_in_bounds c =
-    let x = to_commit _ _ _ _ _ c.judge-answer.ensures c.in_default.is in
-    x.1.0
+commit-requires-clause-record_length_in_bounds c = commit_long _ _ _ _ c.in_ok-table.ensures.ok.1
 
 pub commit-requires-clause-t_in_bounds : goal.commit-requires-clause-t_in_bounds
-commit-requires-clause-t_in_bounds c =
-    let x = to_commit _ _ _ _ _ c.judge-answer.ensures c.in_default.is in
-    omega (arith, parts_fit _ x.0)
+commit-requires-clause-t_in_bounds c = omega (arith, parts_fit _ c.in_ok-table.table.checked)
 
 pub commit-requires-clause-est_value : goal.commit-requires-clause-est_value
 commit-requires-clause-est_value c =
-    let x = to_commit _ _ _ _ _ c.judge-answer.ensures c.in_default.is in
-    (x.1.1).0
+    let judged = c.in_ok-table.ensures.ok in
+    rw judged.0 (commit_estimate _ _ _ _ judged.1)
 
-pub returns-then-at-eq-UNMARKED : goal.returns-then-at-eq-UNMARKED
-returns-then-at-eq-UNMARKED c =
-    settled_finished _ _ _ _ _ c.judge-answer.ensures c.in_default.is _ _ c.commit.ensures c.at.ensures c.if-at-eq-UNMARKED.true
+pub returns-then-root_ended : goal.returns-then-root_ended
+returns-then-root_ended c =
+    let judged = c.in_ok-table.ensures.ok in
+    settled_finished _ _ _ _ judged.1 _ _ (rw judged.0 at c.commit.ensures) c.root_ended.ensures c.if-root_ended.true
 
-pub returns-else-at-eq-UNMARKED : goal.returns-else-at-eq-UNMARKED
-returns-else-at-eq-UNMARKED c =
-    settled_running _ _ _ _ _ c.judge-answer.ensures c.in_default.is _ _ c.commit.ensures c.at.ensures c.if-at-eq-UNMARKED.false
+pub returns-else-root_ended : goal.returns-else-root_ended
+returns-else-root_ended c =
+    let judged = c.in_ok-table.ensures.ok in
+    settled_running _ _ _ _ judged.1 _ _ (rw judged.0 at c.commit.ensures) c.root_ended.ensures c.if-root_ended.false

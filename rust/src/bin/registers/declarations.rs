@@ -40,7 +40,7 @@ pub struct Declaration {
     pub crate_name: String,
     /// The file's name without its ending; of an edit, which is a file itself, the folder's.
     pub module: String,
-    /// The record that a field belongs to.
+    /// The record that a field belongs to, or the type that a method does.
     record: Option<String>,
     pub path: String,
     pub line: usize,
@@ -51,7 +51,7 @@ impl Declaration {
         self.kind == Kind::Function
     }
 
-    /// Whether a word names the place: the crate, the file in it, or the record of a field.
+    /// Whether a word names the place: the crate, the file in it, the record of a field, or the type of a method.
     fn stands_in(&self, word: &str) -> bool {
         self.crate_name == word || self.module == word || self.record.as_deref() == Some(word)
     }
@@ -112,20 +112,38 @@ fn edit(source: &Source) -> Found {
 /// Words before `fn` and the like in a declaration of code.
 const CODE_MODIFIERS: [&str; 4] = ["pub", "crate", "extern", "C"];
 
-/// The functions, constants and types of a file of code.
+/// The functions, constants and types of a file of code, and the types' methods.
 fn items(text: &str) -> Vec<Found> {
     let mut found = Vec::new();
+    // The type whose methods follow.
+    let mut owner = None;
     for (place, line) in text.lines().enumerate() {
-        if let Some((kind, name)) = item(line) {
-            found.push(Found {
-                line: place + 1,
-                name: name.to_string(),
-                kind,
-                record: None,
-            });
+        if !line.is_empty() && !line.starts_with([' ', '/']) {
+            owner = owner_of(line);
         }
+        let method = owner.and_then(|_| line.strip_prefix(METHOD_INDENT));
+        let Some((kind, name)) = item(method.unwrap_or(line)) else {
+            continue;
+        };
+        found.push(Found {
+            line: place + 1,
+            name: name.to_string(),
+            kind,
+            record: method.and(owner).map(str::to_string),
+        });
     }
     found
+}
+
+/// How far a method is indented.
+const METHOD_INDENT: &str = "    ";
+
+/// The type whose methods follow a line: `impl<'a> Page<'a> {`, `impl From<u8> for Kind {`.
+fn owner_of(line: &str) -> Option<&str> {
+    let (_, rest) = line.strip_prefix("impl")?.split_once(' ')?;
+    let name = rest.split_once(" for ").map_or(rest, |(_, name)| name);
+    name.split(|c: char| !c.is_alphanumeric() && c != '_')
+        .next()
 }
 
 /// What a line of code declares. What is indented stands inside something else.

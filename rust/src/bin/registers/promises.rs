@@ -7,13 +7,22 @@ use super::tables::{head, row};
 /// The word before a promise in a contract.
 const PROMISE: &str = "ensures";
 
-/// Whether a function promises something: the lines before its body say so.
+/// The beginning of a law of a trait, which is said before the function that keeps it.
+const LAW: &str = "    ghost ";
+
+/// Whether a function promises something: the lines before its body say so, or the law of a trait before it.
 fn promises(repository: &Repository, function: &Declaration) -> bool {
     let file = repository
         .sources
         .iter()
         .find(|source| source.path == function.path);
     let text = file.map_or("", |file| &file.text);
+    let before: Vec<&str> = text.lines().take(function.line - 1).collect();
+    let is_inside = |line: &&&str| !line.starts_with("impl") && !line.starts_with('}');
+    let mut above = before.iter().rev().take_while(is_inside);
+    if above.any(|line| line.starts_with(LAW)) {
+        return true;
+    }
     let mut is_over = false;
     text.lines()
         .skip(function.line - 1)

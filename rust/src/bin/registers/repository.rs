@@ -10,8 +10,8 @@ use super::declarations::{is_place, named, KINDS};
 /// Folders that the registers read.
 const SOURCES: [&str; 2] = ["crates", "rust/tests"];
 
-/// The note on the port to today's Rattle, which names what was there before.
-const PORT: &str = "docs/PORT.md";
+/// The notes on the port to today's Rattle and on its forms, which name what was there before.
+const BEFORE: [&str; 2] = ["docs/PORT.md", "docs/DESIGN-PASS.md"];
 
 /// The folder of a crate in which rt keeps what it makes.
 const MADE: &str = "out";
@@ -97,7 +97,7 @@ impl Repository {
     /// The paths of all documents that say how things are.
     pub fn documents(&self) -> Vec<String> {
         let mut found = self.texts("docs");
-        found.retain(|path| path != PORT);
+        found.retain(|path| !BEFORE.contains(&path.as_str()));
         found.push("README.md".to_string());
         found
     }

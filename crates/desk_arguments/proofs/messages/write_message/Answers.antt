@@ -1,37 +1,18 @@
--- `write_message` meets its contract: each request has its message.
-use mathlib.Core.Path.{refl}
+-- `write_message` meets its contract: the page has the message alone, which fits.
+use borrow.Author.Rules.{rules}
+use native.Mathlib.Omega.{arith}
+use mathlib.Core.Path.{◌≡◌}
+use lib.ListN.{length}
+use Rattle.desk_format.proofs.Pages.{page_length, page_written}
 use Rattle.desk_arguments.specs.Messages.{message_text}
-use Rattle.desk_arguments.proofs.Said.{said, nothing}
+use Rattle.desk_arguments.proofs.Said.{message_fits}
 use Rattle.desk_arguments.proofs.messages.write_message.Goals as goal
 
-pub returns-in-Help-clause-written : goal.returns-in-Help-clause-written
-unfolding message_text
-returns-in-Help-clause-written c = (said _ c.in-Help.is refl c.write_help.ensures).0
+pub returns-clause-written : goal.returns-clause-written
+returns-clause-written c = page_written (search rules) c.new-page.ensures.length (search rules) (omega (arith, message_fits c.args.command c.args.request)) c.add_message.ensures
 
-pub returns-in-Help-clause-upper_bound : goal.returns-in-Help-clause-upper_bound
-unfolding message_text
-returns-in-Help-clause-upper_bound c = (said _ c.in-Help.is refl c.write_help.ensures).1
-
-pub returns-in-Usage-clause-written : goal.returns-in-Usage-clause-written
-unfolding message_text
-returns-in-Usage-clause-written c = (said _ c.in-Usage.is refl c.write_usage.ensures).0
-
-pub returns-in-Usage-clause-upper_bound : goal.returns-in-Usage-clause-upper_bound
-unfolding message_text
-returns-in-Usage-clause-upper_bound c = (said _ c.in-Usage.is refl c.write_usage.ensures).1
-
-pub returns-in-LongName-clause-written : goal.returns-in-LongName-clause-written
-unfolding message_text
-returns-in-LongName-clause-written c = (said _ c.in-LongName.is refl c.write_word.ensures).0
-
-pub returns-in-Input-clause-written : goal.returns-in-Input-clause-written
-unfolding message_text
-returns-in-Input-clause-written c = (said _ c.in-Input.is refl (nothing _)).0
-
-pub returns-in-File-clause-written : goal.returns-in-File-clause-written
-unfolding message_text
-returns-in-File-clause-written c = (said _ c.in-File.is refl (nothing _)).0
-
-pub returns-in-FileWithParts-clause-written : goal.returns-in-FileWithParts-clause-written
-unfolding message_text
-returns-in-FileWithParts-clause-written c = (said _ c.in-FileWithParts.is refl (nothing _)).0
+pub returns-clause-upper_bound : goal.returns-clause-upper_bound
+returns-clause-upper_bound c =
+    let fits = message_fits c.args.command c.args.request in
+    let whole : c.add_message.new.page.length ≡ length (message_text c.args.command c.args.request) = page_length c.new-page.ensures.length (omega (arith, fits)) c.add_message.ensures in
+    omega (arith, whole, fits)

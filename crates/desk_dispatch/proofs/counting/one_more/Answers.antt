@@ -1,9 +1,7 @@
--- `one_more` meets its contract.
-use Rattle.desk_dispatch.proofs.Counted.{more_left, more_none}
+-- `one_more` meets its contract: the count saturates.
+use Rattle.desk_dispatch.proofs.Counted.{more_saturates}
+use mathlib.Core.Path.{◌∙◌}
 use Rattle.desk_dispatch.proofs.counting.one_more.Goals as goal
 
-pub returns-then-n-lt18446744073709551615 : goal.returns-then-n-lt18446744073709551615
-returns-then-n-lt18446744073709551615 c = search more_left
-
-pub returns-else-n-lt18446744073709551615 : goal.returns-else-n-lt18446744073709551615
-returns-else-n-lt18446744073709551615 c = search more_none
+pub returns : goal.returns
+returns c = c.saturating_add.ensures ∙ more_saturates _ c.ranges.n.fits

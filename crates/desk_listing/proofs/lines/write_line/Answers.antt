@@ -1,14 +1,14 @@
--- `write_line` meets its contract. The loop's invariant: the numbers still to be written, written onto what is there now, give the line.
-use borrow.Author.Rules.{rules}
-use Rattle.desk_listing.proofs.Lined.{line_room, line_step, line_end_lem}
+-- `write_line` meets its contract: at each turn the numbers before this one are written.
+use native.Mathlib.Omega.{arith}
+use Rattle.desk_format.proofs.Pages.{first_none, first_next, first_whole}
+use Rattle.desk_listing.proofs.Lined.{item, line_is}
 use Rattle.desk_listing.proofs.lines.write_line.Goals as goal
 
-pub write_item-j-requires : goal.write_item-j-requires
-write_item-j-requires c = search line_room
+pub loop-k-init : goal.loop-k-init
+loop-k-init c = first_none _ (omega arith)
 
 pub loop-k-preserved : goal.loop-k-preserved
-loop-k-preserved c =
-    (search rules, search line_step)
+loop-k-preserved c = first_next (item c.args.numbers.now) c.loop-k.invariant c.write_item.ensures
 
 pub returns : goal.returns
-returns c = search line_end_lem
+returns c = rw (← line_is c.args.numbers.now) (first_whole _ _ (omega arith) c.loop-k.invariant)

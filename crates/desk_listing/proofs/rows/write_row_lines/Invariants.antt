@@ -1,14 +1,8 @@
--- `write_row_lines` meets its contract. The loop's invariant: the rows still to be written, written onto what is there now, give the whole.
-use Prim.Native.Nat.{◌-◌}
-use mathlib.Core.Path.{◌≡◌}
-use lib.ListN.{length}
-use Rattle.meaning.specs.Program.{parts}
-use Rattle.desk_format.proofs.Texts.{Writing}
-use Rattle.desk_listing.specs.Listing.{row_lines}
+-- `write_row_lines` meets its contract: at each turn the rows before this one are written.
+use Rattle.desk_format.specs.Writing.{texts_from}
+use Rattle.desk_format.specs.Pages.{Adds}
+use Rattle.desk_listing.specs.Listing.{row_line}
 use Rattle.desk_listing.proofs.rows.write_row_lines.Given as goal
 
 abbrev pub invariant-loop-p : goal.invariant-loop-p
-invariant-loop-p l = (length l.out ≡ length l.initial.out) × Writing (row_lines l.table 0 (parts l.table)) l.initial.out l.i (row_lines l.table l.p (l.p-end - l.p)) l.out l.j
-
-abbrev pub decreases-loop-p : goal.decreases-loop-p
-decreases-loop-p l = l.p-end - l.p
+invariant-loop-p l = Adds (texts_from (row_line l.table) 0 l.p) l.fn.page l.page

@@ -1,38 +1,19 @@
--- `write_words` meets its contract: each refusal has its line.
-use mathlib.Core.Path.{refl}
+-- `write_words` meets its contract: the page has the words alone, which fit.
+use borrow.Author.Rules.{rules}
+use native.Mathlib.Omega.{arith}
+use mathlib.Core.Path.{◌≡◌}
+use lib.ListN.{length}
 use Rattle.meaning.specs.Answers.{refusal_number}
+use Rattle.desk_format.proofs.Pages.{page_length, page_written}
 use Rattle.desk_texts.specs.Words.{refusal_text}
-use Rattle.desk_texts.proofs.Saying.{said, other_said, said_fits, refused_room}
+use Rattle.desk_texts.proofs.Saying.{words_fit}
 use Rattle.desk_texts.proofs.words.write_words.Goals as goal
 
-pub write_refused-requires : goal.write_refused-requires
-write_refused-requires c = refused_room _
+pub returns-clause-written : goal.returns-clause-written
+returns-clause-written c = page_written (search rules) c.new-page.ensures.length (search rules) (omega (arith, words_fit (refusal_number c.args.why) c.args.text.now c.args.place)) c.add_words.ensures
 
-pub returns-in-SizeOutOfRange-clause-written : goal.returns-in-SizeOutOfRange-clause-written
-unfolding refusal_text
-returns-in-SizeOutOfRange-clause-written c = (said _ _ c.in-SizeOutOfRange.is refl c.write_word.ensures).0
-
-pub returns-in-OperandNotAllowed-clause-written : goal.returns-in-OperandNotAllowed-clause-written
-unfolding refusal_text
-returns-in-OperandNotAllowed-clause-written c = (said _ _ c.in-OperandNotAllowed.is refl c.write_word-in-OperandNotAllowed.ensures).0
-
-pub returns-in-TooDeep-clause-written : goal.returns-in-TooDeep-clause-written
-unfolding refusal_text
-returns-in-TooDeep-clause-written c = (said _ _ c.in-TooDeep.is refl c.write_word-in-TooDeep.ensures).0
-
-pub returns-in-NotAText-clause-written : goal.returns-in-NotAText-clause-written
-unfolding refusal_text
-returns-in-NotAText-clause-written c = (said _ _ c.in-NotAText.is refl c.write_not_a_text.ensures).0
-
-pub returns-in-NotAText-clause-upper_bound : goal.returns-in-NotAText-clause-upper_bound
-unfolding refusal_text
-returns-in-NotAText-clause-upper_bound c = (said _ _ c.in-NotAText.is refl c.write_not_a_text.ensures).1
-
-pub returns-in_default-clause-written : goal.returns-in_default-clause-written
-returns-in_default-clause-written c =
-    other_said _ _ _ c.in_default.not-SizeOutOfRange c.in_default.not-OperandNotAllowed c.in_default.not-TooDeep c.in_default.not-NotAText c.write_refused.ensures
-
-pub returns-in_default-clause-upper_bound : goal.returns-in_default-clause-upper_bound
-returns-in_default-clause-upper_bound c =
-    said_fits (refusal_number c.args.why) c.args.text.now c.args.place
-    (other_said _ _ _ c.in_default.not-SizeOutOfRange c.in_default.not-OperandNotAllowed c.in_default.not-TooDeep c.in_default.not-NotAText c.write_refused.ensures)
+pub returns-clause-upper_bound : goal.returns-clause-upper_bound
+returns-clause-upper_bound c =
+    let fits = words_fit (refusal_number c.args.why) c.args.text.now c.args.place in
+    let whole : c.add_words.new.page.length ≡ length (refusal_text (refusal_number c.args.why) c.args.text.now c.args.place) = page_length c.new-page.ensures.length (omega (arith, fits)) c.add_words.ensures in
+    omega (arith, whole, fits)

@@ -1,14 +1,8 @@
--- `write_marks` meets its contract. The loop's invariant: the parts still to be written, written onto what is there now, give the whole.
-use Prim.Native.Nat.{◌-◌}
-use mathlib.Core.Path.{◌≡◌}
-use lib.ListN.{length}
+-- `write_marks` meets its contract: at each turn the parts before this one are written.
 use Rattle.desk_format.specs.Writing.{texts_from}
-use Rattle.desk_format.proofs.Texts.{Writing}
-use Rattle.desk_transcript.specs.Transcript.{part_text, marks_text}
+use Rattle.desk_format.specs.Pages.{Adds}
+use Rattle.desk_transcript.specs.Transcript.{part_text}
 use Rattle.desk_transcript.proofs.parts.write_marks.Given as goal
 
 abbrev pub invariant-loop-p : goal.invariant-loop-p
-invariant-loop-p l = (length l.out ≡ length l.initial.out) × Writing (marks_text l.t l.r) l.initial.out l.i (texts_from (part_text l.t l.r) l.p (l.p-end - l.p)) l.out l.j
-
-abbrev pub decreases-loop-p : goal.decreases-loop-p
-decreases-loop-p l = l.p-end - l.p
+invariant-loop-p l = Adds (texts_from (part_text l.t l.r) 0 l.p) l.fn.page l.page

@@ -1,19 +1,15 @@
--- `write_clocks` meets its contract. The loop's invariant: the clocks still to be written, written onto what is there now, give the whole.
-use mathlib.Core.Path.{refl}
-use borrow.Author.Rules.{rules}
-use Rattle.desk_format.proofs.Texts.{texts_step, texts_end}
-use Rattle.desk_transcript.proofs.Summing.{clocks_first, clocks_room}
+-- `write_clocks` meets its contract: at each turn the clocks before this one are written.
+use native.Mathlib.Omega.{arith}
+use Rattle.desk_format.proofs.Pages.{first_none, first_next, first_whole}
+use Rattle.desk_transcript.specs.Transcript.{clock_text, clocks_text}
 use Rattle.desk_transcript.proofs.summary.write_clocks.Goals as goal
 
 pub loop-c-init : goal.loop-c-init
-loop-c-init c = (refl, search clocks_first)
-
-pub write_clock-j-requires-clause-c_bound_2 : goal.write_clock-j-requires-clause-c_bound_2
-write_clock-j-requires-clause-c_bound_2 c = search (rules, clocks_room)
+loop-c-init c = first_none _ (omega arith)
 
 pub loop-c-preserved : goal.loop-c-preserved
-loop-c-preserved c =
-    (search rules, search texts_step)
+loop-c-preserved c = first_next (clock_text c.args.t.now c.args.r.now) c.loop-c.invariant c.write_clock.ensures
 
 pub returns : goal.returns
-returns c = search texts_end
+unfolding clocks_text
+returns c = first_whole _ _ (omega arith) c.loop-c.invariant

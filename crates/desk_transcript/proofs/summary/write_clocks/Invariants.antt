@@ -1,14 +1,8 @@
--- `write_clocks` meets its contract. The loop's invariant: the clocks still to be written, written onto what is there now, give the whole.
-use Prim.Native.Nat.{◌-◌}
-use mathlib.Core.Path.{◌≡◌}
-use lib.ListN.{length}
+-- `write_clocks` meets its contract: at each turn the clocks before this one are written.
 use Rattle.desk_format.specs.Writing.{texts_from}
-use Rattle.desk_format.proofs.Texts.{Writing}
-use Rattle.desk_transcript.specs.Transcript.{clock_text, clocks_text}
+use Rattle.desk_format.specs.Pages.{Adds}
+use Rattle.desk_transcript.specs.Transcript.{clock_text}
 use Rattle.desk_transcript.proofs.summary.write_clocks.Given as goal
 
 abbrev pub invariant-loop-c : goal.invariant-loop-c
-invariant-loop-c l = (length l.out ≡ length l.initial.out) × Writing (clocks_text l.t l.r) l.initial.out l.i (texts_from (clock_text l.t l.r) l.c (l.c-end - l.c)) l.out l.j
-
-abbrev pub decreases-loop-c : goal.decreases-loop-c
-decreases-loop-c l = l.c-end - l.c
+invariant-loop-c l = Adds (texts_from (clock_text l.t l.r) 0 l.c) l.fn.page l.page

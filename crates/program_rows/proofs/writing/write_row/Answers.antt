@@ -14,7 +14,7 @@ entry_at-part-requires c = walkable_readable File _ _ c.requires.walkable
 
 pub overflow_add-q : goal.overflow_add-q
 overflow_add-q c =
-    omega (arith, stands_below File _ _ c.requires.walkable.stands, c.shared_slice_known-1.given 0)
+    omega (arith, stands_below File _ _ c.requires.walkable.stands, c.type_inv.s 0)
 
 pub loop-remaining-init : goal.loop-remaining-init
 loop-remaining-init c =
@@ -32,11 +32,11 @@ put_links-requires c =
 
 pub loop-remaining-preserved : goal.loop-remaining-preserved
 loop-remaining-preserved c =
-    let small : parts c.args.s.now < number_limit = omega (arith, c.shared_slice_known-1.given 0) in
+    let small : parts c.args.s.now < number_limit = omega (arith, c.type_inv.s 0) in
     let ends = end_read _ _ _ _ _ _ _ _ c.loop-remaining.invariant.1.0 c.loop-remaining-test.true c.loop-remaining.invariant.1.1 small _ _ c.row_place.ensures c.read_number-e.ensures in (
       omega (arith, c.put_links.auto, c.loop-remaining.invariant.0),
       (
-        link_child _ _ _ _ _ _ _ _ c.loop-remaining.invariant.1.0 c.loop-remaining-test.true c.loop-remaining.invariant.1.1 small _ _ _ ends c.put_links.ensures _ refl c.next_of-next.ensures,
+        link_child _ _ _ _ _ _ _ _ c.loop-remaining.invariant.1.0 c.loop-remaining-test.true c.loop-remaining.invariant.1.1 small _ _ _ ends c.put_links.ensures _ refl (rw (← c.from.ensures) c.next_of-next.ensures),
         others_stand _ _ _ _ _ _ _ _ c.loop-remaining.invariant.1.0 c.loop-remaining-test.true c.loop-remaining.invariant.1.1 small _ _ _ ends c.put_links.ensures,
       ),
     )

@@ -8,6 +8,3 @@ use Rattle.program_rows.proofs.writing.write_row.Given as goal
 
 abbrev pub invariant-loop-remaining : goal.invariant-loop-remaining
 invariant-loop-remaining l = (length l.out ≡ length l.initial.out) × (Rowing l.s (kind_of l.part.kind) l.p l.q l.remaining l.out (inner_written l.s l.p l.initial.out) (end_of l.s l.p) × Forest l.s l.out l.q)
-
-abbrev pub decreases-loop-remaining : goal.decreases-loop-remaining
-decreases-loop-remaining l = l.remaining

@@ -8,6 +8,3 @@ use Rattle.program_rows.proofs.writing.write_rows.Given as goal
 
 abbrev pub invariant-loop-p : goal.invariant-loop-p
 invariant-loop-p l = (length l.out ≡ length l.initial.out) × ((l.p ≤ parts l.s) × Growing l.s l.initial.out l.out l.p)
-
-abbrev pub decreases-loop-p : goal.decreases-loop-p
-decreases-loop-p l = l.p

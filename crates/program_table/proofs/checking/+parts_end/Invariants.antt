@@ -11,8 +11,5 @@ use Rattle.program_table.proofs.checking.+parts_end.Given as goal
 abbrev pub decreases-parts_end : goal.decreases-parts_end
 decreases-parts_end l = parts l.t.now - l.p
 
-abbrev pub invariant-loop-remaining : goal.invariant-loop-remaining
-invariant-loop-remaining l = Walking Table l.t (end_stored l.t) (max_depth - (l.outer + 1)) l.p l.q l.remaining (parts_end Table l.t (end_stored l.t) (max_depth - l.outer) l.count l.p)
-
-abbrev pub decreases-loop-remaining : goal.decreases-loop-remaining
-decreases-loop-remaining l = l.remaining
+abbrev pub invariant-loop : goal.invariant-loop
+invariant-loop l = Walking Table l.t (end_stored l.t) (max_depth - (l.outer + 1)) l.p l.q (l.count - l.counter) (parts_end Table l.t (end_stored l.t) (max_depth - l.outer) l.count l.p)

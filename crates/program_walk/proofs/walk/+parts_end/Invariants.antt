@@ -12,8 +12,5 @@ use Rattle.program_walk.proofs.walk.+parts_end.Given as goal
 abbrev pub decreases-parts_end : goal.decreases-parts_end
 decreases-parts_end l = parts l.s.now - l.p
 
-abbrev pub invariant-loop-remaining : goal.invariant-loop-remaining
-invariant-loop-remaining l = Going l.s l.outer l.depth l.steps l.p l.q l.remaining (parts_end File l.s any_end (max_depth - l.outer) l.count l.p) (l.initial.steps + length (row_steps l.s l.outer l.count l.p))
-
-abbrev pub decreases-loop-remaining : goal.decreases-loop-remaining
-decreases-loop-remaining l = l.remaining
+abbrev pub invariant-loop : goal.invariant-loop
+invariant-loop l = Going l.s l.outer l.depth l.steps l.p l.q (l.count - l.counter) (parts_end File l.s any_end (max_depth - l.outer) l.count l.p) (l.initial.steps + length (row_steps l.s l.outer l.count l.p))

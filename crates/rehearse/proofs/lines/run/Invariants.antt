@@ -1,10 +1,6 @@
--- `run` meets its contract, and ends: the count of turns falls.
-use Prim.Native.Nat.{◌-◌, ◌≤◌}
-use Rattle.rehearse.specs.Standing.{Ran, max_turns}
+-- `run` meets its contract: at each turn those before it were taken, each while the run went on.
+use Rattle.rehearse.specs.Standing.{Ran}
 use Rattle.rehearse.proofs.lines.run.Given as goal
 
-abbrev pub invariant-loop-turns : goal.invariant-loop-turns
-invariant-loop-turns l = (l.turns ≤ max_turns) × Ran l.t l.initial.r l.asked l.initial.input (max_turns - l.turns) l.r l.input l.s
-
-abbrev pub decreases-loop-turns : goal.decreases-loop-turns
-decreases-loop-turns l = l.turns
+abbrev pub invariant-loop : goal.invariant-loop
+invariant-loop l = Ran l.t l.initial.r l.asked l.initial.input l.counter l.r l.input l.s

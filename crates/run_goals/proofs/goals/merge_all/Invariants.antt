@@ -9,7 +9,7 @@ use Rattle.run_goals.specs.Merged.{goals_merged}
 use Rattle.run_goals.proofs.goals.merge_all.Given as goal
 
 abbrev pub invariant-loop-p : goal.invariant-loop-p
-invariant-loop-p l = (length l.g ≡ length l.initial.g) × (goals_merged l.g (leaves_from l.t l.p (bytes_at l.r (marks_place + l.p) (l.p-end - l.p))) ≡ goals_merged l.initial.g (leaves_from l.t 0 (marks_in l.t l.r)))
+invariant-loop-p l = (length l.g ≡ length l.initial.g) × (goals_merged l.g (leaves_from l.t.bytes.now l.p (bytes_at l.r.bytes.now (marks_place + l.p) (l.p-end - l.p))) ≡ goals_merged l.initial.g (leaves_from l.t.bytes.now 0 (marks_in l.t.bytes.now l.r.bytes.now)))
 
 abbrev pub decreases-loop-p : goal.decreases-loop-p
 decreases-loop-p l = l.p-end - l.p

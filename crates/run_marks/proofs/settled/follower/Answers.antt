@@ -1,10 +1,10 @@
--- `follower` meets its contract: each transition has its arm.
-use Rattle.program_part.proofs.Places.{row_readable}
-use Rattle.run_marks.proofs.Settling.{second_held}
+-- `follower` meets its contract: each transition has its arm, and a part's first child has a number.
+use native.Mathlib.Omega.{arith}
+use Rattle.program_part.proofs.Places.{parts_fit}
 use Rattle.run_marks.proofs.settled.follower.Goals as goal
 
-pub next_at-requires : goal.next_at-requires
-next_at-requires c = search row_readable
+pub overflow_add-result : goal.overflow_add-result
+overflow_add-result c = omega (arith, parts_fit _ c.args.t.checked, c.requires.p_bound)
 
-pub end_at-requires : goal.end_at-requires
-end_at-requires c = search second_held
+pub overflow_add-p : goal.overflow_add-p
+overflow_add-p c = omega (arith, parts_fit _ c.args.t.checked, c.requires.p_bound)

@@ -9,7 +9,7 @@ loop-p-init c = (refl, search checked_start)
 pub loop-p-preserved : goal.loop-p-preserved
 loop-p-preserved c = (
   c.check_part-skip.auto.r ∙ c.loop-p.invariant.0,
-  checked_step _ _ _ _ _ _ _ _ _ c.requires.t_value c.parts-p-end.ensures c.loop-p-test.true c.check_part-skip.ensures.r_after c.check_part-skip.ensures.value c.loop-p.invariant.1,
+  checked_step _ _ _ _ _ _ _ _ _ c.args.t.checked c.parts-p-end.ensures c.loop-p-test.true c.check_part-skip.ensures.r_after c.check_part-skip.ensures.value c.loop-p.invariant.1,
 )
 
 pub returns : goal.returns

@@ -1,13 +1,9 @@
--- `expect` meets its contract: one law for each answer, and one for its numbers.
-use Rattle.text_read.proofs.Plain.{moves_none, missing_moves, expect_stopped, expect_missing, expect_passed, expect_moves}
-use borrow.Author.Rules.{rules}
+-- `expect` meets its contract: one law for each answer.
+use Rattle.text_read.proofs.Plain.{expect_missing, expect_passed}
 use Rattle.text_read.proofs.leaves.expect.Goals as goal
 
-pub returns-in_default-clause-passes : goal.returns-in_default-clause-passes
-returns-in_default-clause-passes c = search (rules, expect_stopped, moves_none)
-
-pub returns-then-kind_from-mark-clause-passes : goal.returns-then-kind_from-mark-clause-passes
-returns-then-kind_from-mark-clause-passes c = search (rules, expect_missing, missing_moves)
+pub returns-then-not-stands_at-clause-passes : goal.returns-then-not-stands_at-clause-passes
+returns-then-not-stands_at-clause-passes c = search expect_missing
 
 pub returns-clause-passes : goal.returns-clause-passes
-returns-clause-passes c = search (rules, expect_passed, expect_moves)
+returns-clause-passes c = search expect_passed

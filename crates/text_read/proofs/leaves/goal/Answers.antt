@@ -1,10 +1,9 @@
 -- `goal` meets its contract.
 use Rattle.text_read.proofs.Plain.{goal_missing, goal_read}
-use borrow.Author.Rules.{rules}
 use Rattle.text_read.proofs.leaves.goal.Goals as goal
 
-pub returns-then-kind_from-ne-EQUAL_SIGN-clause-does : goal.returns-then-kind_from-ne-EQUAL_SIGN-clause-does
-returns-then-kind_from-ne-EQUAL_SIGN-clause-does c = search (rules, goal_missing)
+pub returns-then-not-stands_at-clause-does : goal.returns-then-not-stands_at-clause-does
+returns-then-not-stands_at-clause-does c = search goal_missing
 
 pub returns-clause-does : goal.returns-clause-does
-returns-clause-does c = search (rules, goal_read)
+returns-clause-does c = search goal_read

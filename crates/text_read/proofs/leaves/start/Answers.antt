@@ -1,10 +1,12 @@
 -- `start` meets its contract.
 use Rattle.text_read.proofs.Plain.{start_missing, start_read, start_moves}
-use borrow.Author.Rules.{rules}
 use Rattle.text_read.proofs.leaves.start.Goals as goal
 
-pub returns-then-kind_from-ne-CLOCK-clause-does : goal.returns-then-kind_from-ne-CLOCK-clause-does
-returns-then-kind_from-ne-CLOCK-clause-does c = search (rules, start_missing)
+pub returns-in_default-clause-does : goal.returns-in_default-clause-does
+returns-in_default-clause-does c = search start_missing
 
 pub returns-clause-does : goal.returns-clause-does
-returns-clause-does c = search (rules, start_read, start_moves)
+returns-clause-does c = search start_read
+
+pub returns-clause-moves : goal.returns-clause-moves
+returns-clause-moves c = search start_moves

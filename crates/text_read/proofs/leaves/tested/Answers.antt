@@ -1,13 +1,12 @@
 -- `tested` meets its contract.
 use Rattle.text_read.proofs.Plain.{test_first, test_second, test_missing}
-use borrow.Author.Rules.{rules}
 use Rattle.text_read.proofs.leaves.tested.Goals as goal
 
-pub returns-then-sign-first-clause-tests_one : goal.returns-then-sign-first-clause-tests_one
-returns-then-sign-first-clause-tests_one c = search (rules, test_first)
+pub returns-then-stands_at-clause-does : goal.returns-then-stands_at-clause-does
+returns-then-stands_at-clause-does c = search test_first
 
-pub returns-then-sign-second-clause-tests_one : goal.returns-then-sign-second-clause-tests_one
-returns-then-sign-second-clause-tests_one c = search (rules, test_second)
+pub returns-then-stands_at-2-clause-does : goal.returns-then-stands_at-2-clause-does
+returns-then-stands_at-2-clause-does c = search test_second
 
-pub returns-clause-tests_one : goal.returns-clause-tests_one
-returns-clause-tests_one c = search (rules, test_missing)
+pub returns-clause-does : goal.returns-clause-does
+returns-clause-does c = search test_missing

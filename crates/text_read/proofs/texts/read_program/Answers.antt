@@ -1,12 +1,13 @@
 -- `read_program` meets its contract: one law for each return.
+use mathlib.Core.Path.{sym, ◌∙◌}
 use Rattle.text_read.proofs.Whole.{more_text, whole_text, no_body_lem}
 use Rattle.text_read.proofs.texts.read_program.Goals as goal
 
-pub returns-then-kind_from-ne-NO_TOKEN : goal.returns-then-kind_from-ne-NO_TOKEN
-returns-then-kind_from-ne-NO_TOKEN c = search more_text
+pub returns-in_err-end : goal.returns-in_err-end
+returns-in_err-end c = no_body_lem _ _ _ _ _ _ _ c.in_err-end.ensures.does c.in_err-end.ensures.moves _ c.from_residual.ensures.1
 
-pub returns-else-kind_from-ne-NO_TOKEN : goal.returns-else-kind_from-ne-NO_TOKEN
-returns-else-kind_from-ne-NO_TOKEN c = search whole_text
+pub returns-then-is_some : goal.returns-then-is_some
+returns-then-is_some c = more_text _ _ _ _ _ _ _ c.in_ok-end.ensures.does _ (rw c.from.ensures at c.token_at.ensures) (sym c.is_some.ensures ∙ c.if-is_some.true) c.in_ok-end.ensures.moves
 
-pub returns-in-Stops : goal.returns-in-Stops
-returns-in-Stops c = search no_body_lem
+pub returns : goal.returns
+returns c = whole_text _ _ _ _ _ _ _ c.in_ok-end.ensures.does _ (rw c.from.ensures at c.token_at.ensures) (sym c.is_some.ensures ∙ c.if-is_some.false)

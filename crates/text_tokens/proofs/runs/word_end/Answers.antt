@@ -1,6 +1,6 @@
--- `word_end` meets its contract: at each turn letters and digits stand from `from` up to place i.
-use Rattle.text_tokens.proofs.Ends.{word_next}
+-- `word_end` meets its contract: the letters and digits that are counted are passed.
+use Rattle.text_tokens.proofs.Ends.{word_ends_lem}
 use Rattle.text_tokens.proofs.runs.word_end.Goals as goal
 
-pub loop-i-preserved : goal.loop-i-preserved
-loop-i-preserved c = search word_next
+pub returns : goal.returns
+returns c = search word_ends_lem

@@ -1,7 +1,0 @@
--- `root_matches` meets its contract: of the root's row only the parent and the next are not its own.
-use Rattle.program_table.proofs.RowChecks.{root_compared}
-use Rattle.program_table.proofs.checking.root_matches.Goals as goal
-
-pub returns : goal.returns
-returns c =
-    root_compared _ c.requires.ending c.requires.readable.there _ _ c.parent_at.ensures c.next_at.ensures
