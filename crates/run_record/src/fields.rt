@@ -1,5 +1,4 @@
-// What stands where in a run record. The phase alone is asked of a record of any length: refusals
-// read it before anything else is known.
+// What stands where in a run record. The phase and the marks are asked of bytes of any length too.
 ghost use Rattle.std.specs.Prelude.{◌≡◌, not, ◌+◌, ◌*◌, ◌<◌, ◌≤◌, eqb, length, get_or, IfSome, IfNone};
 ghost use Rattle.meaning.specs.Sizes.{byte_values, max_clocks, time_width};
 ghost use Rattle.meaning.specs.Record.{started_place, starts_place, marks_place, record_length, time_at, phase_of, last_time, is_mark};
@@ -7,8 +6,7 @@ ghost use Rattle.meaning.specs.Record.{started_place, starts_place, marks_place,
 use base::at;
 use meaning::Number;
 use meaning::sizes::{
-    BYTE_VALUES, MARKS_PLACE, PHASE_PLACE, RECORD, STARTED_PLACE, STARTS_PLACE, TIME, TIME_PLACE,
-    UNMARKED,
+    MARKS_PLACE, PHASE_PLACE, RECORD, STARTED_PLACE, STARTS_PLACE, TIME, TIME_PLACE, UNMARKED,
 };
 
 pub fn phase(r: &[u8]) -> u8

@@ -18,13 +18,13 @@ use Rattle.meaning.specs.declared.Outcome.TheVariants.{Satisfied, Violated, Open
 use Rattle.meaning.specs.Sizes.{unknown_value}
 use Rattle.meaning.specs.declared.kinds.Test.{Test}
 use Rattle.meaning.specs.declared.kinds.Test.TheVariants.{Untested as UNTESTED, Equals as EQUALS, Differs as DIFFERS, AtLeast as AT-LEAST, Below as BELOW}
-use Rattle.meaning.specs.Kinds.{test_of, value, test_allowed, condition_allowed}
+use Rattle.meaning.specs.Kinds.{test_of, test_number, value, test_allowed, condition_allowed}
 use Rattle.meaning.specs.Program.{clocks}
 use Rattle.meaning.specs.Conditions.{Situation, estimate_of, is_known, is_started, reading, decided, open_unless, tested, is_satisfied, is_violated, outcome, satisfied, violated}
 use Rattle.meaning.specs.Record.{last_time, estimate_in, started_in, started_place, record_allowed}
 use Rattle.meaning.specs.Cycle.{situation, offer_refusal, settle_refusal}
 use Rattle.meaning.proofs.Refusals.{offer_tests_lem, settle_tests_lem}
-use Rattle.sentences.specs.Opposites.{opposite, test_number, opposite_of, OverVariable, OverClock, Judged, ReadsExactly}
+use Rattle.sentences.specs.Opposites.{opposite, opposite_of, OverVariable, OverClock, Judged, ReadsExactly}
 use Rattle.sentences.proofs.AllowedRecords.{exactly_allowed}
 
 -- the opposite of an opposite is the test itself

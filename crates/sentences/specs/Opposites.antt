@@ -5,7 +5,7 @@ use Rattle.meaning.specs.declared.Outcome.TheVariants.{Open}
 use Rattle.meaning.specs.Sizes.{unknown_value}
 use Rattle.meaning.specs.declared.kinds.Test.{Test}
 use Rattle.meaning.specs.declared.kinds.Test.TheVariants.{Untested as UNTESTED, Equals as EQUALS, Differs as DIFFERS, AtLeast as AT-LEAST, Below as BELOW}
-use Rattle.meaning.specs.Kinds.{test_of, value}
+use Rattle.meaning.specs.Kinds.{test_of, test_number, value}
 use Rattle.meaning.specs.Conditions.{Situation, estimate_of, is_known, is_started, reading, outcome, satisfied, violated}
 
 -- "its opposite (1 against 2, 3 against 4)"
@@ -15,13 +15,6 @@ opposite EQUALS = DIFFERS
 opposite DIFFERS = EQUALS
 opposite AT-LEAST = BELOW
 opposite BELOW = AT-LEAST
-
-unfoldable pub test_number : Test → ℕ
-test_number UNTESTED = 0
-test_number EQUALS = 1
-test_number DIFFERS = 2
-test_number AT-LEAST = 3
-test_number BELOW = 4
 
 -- the opposite of a condition asks the opposite of the same variable or clock, with the same value
 abbrev pub opposite_of : Operand → Operand
