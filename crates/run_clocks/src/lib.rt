@@ -1,6 +1,4 @@
-// The clocks at a settling: every marked START sets its clock to the last time, started or not. The record is
-// written part by part, so it stays a slice whose length the clauses ask for: a type round it would have to be
-// lent anew at each call.
+// The clocks at a settling: every marked START sets its clock to the last time, started or not.
 #![tactic(auto)]
 
 ghost use Rattle.std.specs.Prelude.{◌≡◌, ◌<◌, ◌≤◌, length};
@@ -16,7 +14,8 @@ use program_table::table::Table;
 use run_record::fields::Record;
 use run_record::times::put_time;
 
-// Starts clock c at a time, whatever it had.
+// Starts clock c at a time, whatever it had. The record that is written stays a slice, here and below: a type round it
+// would have to be lent anew at each call.
 #[tactic(auto, using(crate::proofs::Starting::clock_stored))]
 fn start_clock(r: &mut [u8], c: u8, time: u32)
     requires record_length_in_bounds { record_length ≤ length r.old }
