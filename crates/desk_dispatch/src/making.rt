@@ -72,9 +72,9 @@ pub fn ends_run(x: Line) -> bool
     x == Line::NotACall
 }
 
-// Makes the call of a line, with the line's estimate, and gives the count of cycles after it. A line that is passed over
-// has no call and no text, and one that is no call has the words that say so.
-pub fn make_call(
+// Makes the call of a line, and gives the count of cycles after it. A line that is passed over has no call and no text,
+// and one that is no call has the words that say so.
+fn count_after(
     t: &[u8],
     r: &mut [u8],
     cycles: u64,
@@ -103,5 +103,33 @@ pub fn make_call(
             write_line_fault(number, page);
             cycles
         }
+    }
+}
+
+// What making the call of a line leads to: the count of cycles after it, and whether the line ends the run.
+#[derive(Clone, Copy, PartialEq, Eq)]
+pub struct Made {
+    pub cycles: u64,
+    pub ends: bool,
+}
+
+// Makes the call of a line, with the line's estimate.
+pub fn make_call(
+    t: &[u8],
+    r: &mut [u8],
+    cycles: u64,
+    number: u64,
+    x: Line,
+    est: &[u8],
+    page: &mut Page<'_>,
+) -> Made
+    ensures count { result.cycles ≡ cycles_at t.now r.old x est.now cycles }
+    ensures ends { result.ends ≡ ends_run x }
+    ensures written { Adds (line_report t.now r.old number x est.now) page.old page.new }
+    ensures r_after { r.new ≡ record_at t.now r.old x est.now }
+{
+    Made {
+        cycles: count_after(t, r, cycles, number, x, est, page),
+        ends: ends_run(x),
     }
 }

@@ -11,7 +11,7 @@ ghost use Rattle.desk_transcript.specs.Transcript.{summary_text, max_answer, max
 ghost use Rattle.desk_rehearsal.specs.Rehearsal.{parts_under, Answered};
 
 use crate::parsing::{estimate_length, is_call, parse_line};
-use desk_dispatch::making::{ends_run, make_call};
+use desk_dispatch::making::make_call;
 use desk_format::page::Page;
 use desk_transcript::parts::write_parts;
 use desk_transcript::summary::write_summary;
@@ -55,12 +55,12 @@ pub fn answer_line(
     let x = parse_line(line, &mut bytes);
     let n = estimate_length(x);
     let mut page = Page::new(out);
-    let after = make_call(t, r, cycles, number, x, &bytes[..n], &mut page);
+    let made = make_call(t, r, cycles, number, x, &bytes[..n], &mut page);
     add_parts(t, r, asked & is_call(x), &mut page);
     Turn {
         length: page.length,
-        cycles: after,
-        ends: ends_run(x),
+        cycles: made.cycles,
+        ends: made.ends,
     }
 }
 

@@ -1,11 +1,11 @@
 -- Compiling: the bytes that are written, and one law for each place where the code gives its answer.
-use Prim.Native.Nat.{ℕ, zero, suc, ◌≤◌, ◌<◌}
+use Prim.Native.Nat.{ℕ, zero, suc, ◌+◌, ◌≤◌, ◌<◌}
 use native.Mathlib.Omega.{arith}
 use mathlib.Core.Path.{◌≡◌, refl, sym, ap, ap₂, ◌∙◌}
 use mathlib.Core.Option.{some}
 use mathlib.Core.List.{List, [], ◌∷◌, ◌++◌, map}
-use lib.ListN.{length}
-use lib.Seq.{sets}
+use lib.ListN.{length, take, drop, length-drop}
+use lib.Seq.{sets, length-take-le}
 use borrow.Author.Tests.{le-leb, lt-leb, ne_eqb}
 use Rattle.base.specs.Lists.{flat, tabulate}
 use Rattle.base.proofs.Stores.{sets-append}
@@ -19,6 +19,7 @@ use Rattle.meaning.specs.Table.{Row, link_bytes, row_bytes, block, table_of, com
 use Rattle.meaning.specs.Answers.{refusal_number, buffer_too_short}
 use Rattle.meaning.proofs.Answers.{refusal_positive}
 use Rattle.meaning.proofs.Files.{Holds, accepted, sizes_back}
+use Rattle.meaning.proofs.Trees.{size_law}
 use Rattle.meaning.proofs.Tables.{rows_entries, compiled_is, row_entry}
 use Rattle.program_walk.specs.Walk.{OneTree, part_at}
 use Rattle.program_rows.specs.Rows.{rows_of, linked_rows}
@@ -48,6 +49,10 @@ module _ (form : Form) (s : List ℕ) (h : program_refusal form s ≡ 0) where
   part_there : part_at (entries form s) 0 ≡ part
   part_there = let same-tree : some (part_at (entries form s) 0) ≡ some part = sym (alone_part form s tree_alone) ∙ (accepted form s h).1 in cc
 
+-- so many bytes as the sizes take, from a place on where there is room for them
+pub sizes_long : (l : List ℕ) (i : ℕ) → i + header_length ≤ length l → length (take header_length (drop i l)) ≡ header_length
+sizes_long l i h = length-take-le header_length (drop i l) (rw length-drop (omega (arith, h)))
+
 -- An accepted file is written as its table: its sizes, then the rows of its tree
 module _ (s : List ℕ) (h : program_refusal File s ≡ 0) where
   holds : Holds File s (part File s h)
@@ -58,6 +63,9 @@ module _ (s : List ℕ) (h : program_refusal File s ≡ 0) where
 
   pub file_tree : OneTree s
   file_tree = record { long = omega (arith, holds.length_is); part = (tree_alone File s h).part; is = (tree_alone File s h).is }
+
+  pub some_parts : 0 < parts s
+  some_parts = omega (arith, holds.parts_are, size_law (part File s h))
 
   rows_are_lem : rows_of s ≡ flat row_bytes rows
   unfolding rows_of entries

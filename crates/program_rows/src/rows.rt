@@ -2,6 +2,7 @@
 ghost use Rattle.std.specs.Prelude.{◌≡◌, ◌+◌, ◌*◌, ◌≤◌, length};
 ghost use Rattle.std.proofs.lemmas.List.Edits.{sets};
 ghost use Rattle.meaning.specs.Sizes.{number_width, header_length, operand_length, row_length, number_bytes};
+ghost use Rattle.meaning.specs.Kinds.{kind_of};
 ghost use Rattle.meaning.specs.Program.{operand_bytes};
 ghost use Rattle.meaning.specs.Table.{next_of};
 ghost use Rattle.program_rows.specs.Rows.{entry_row, with_links};
@@ -12,12 +13,12 @@ use meaning::sizes::{END_PLACE, NEXT_PLACE, NO_PART, OPERAND, OPERAND_PLACE, PAR
 use meaning::{Entry, Number, Operand};
 use program_part::layout::row_place;
 
-// The next of a child of a part of that kind.
+// The next of a child of a part whose kind is that byte.
 #[tactic(auto, unfolding(meaning::specs::Table::next_of))]
-pub fn next_of(kind: Kind, q: Number, e: Number, follows: bool) -> Number
-    ensures { result ≡ next_of kind q e follows }
+pub fn next_of(kind: u8, q: Number, e: Number, follows: bool) -> Number
+    ensures { result ≡ next_of (kind_of kind) q e follows }
 {
-    match kind {
+    match Kind::from(kind) {
         Kind::Seq => { if follows { e } else { NO_PART } }
         Kind::Repeat => q,
         _ => NO_PART,

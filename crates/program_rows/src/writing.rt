@@ -10,7 +10,6 @@ ghost use Rattle.program_walk.specs.Walk.{Walkable, OneTree};
 ghost use Rattle.program_rows.specs.Rows.{Forest, row_written, rows_of};
 
 use crate::rows::{next_of, put_links, put_row};
-use meaning::kinds::Kind;
 use meaning::sizes::{END_PLACE, NO_PART};
 use meaning::{Form, Number};
 use program_part::kinds::arity;
@@ -28,7 +27,7 @@ fn write_row(s: &[u8], out: &mut [u8], p: Number)
     let mut q = p + 1;
     for remaining in (0..arity(part)).rev() {
         let e = read_number(out, row_place(q) + END_PLACE);
-        let next = next_of(Kind::from(part.kind), q, e, remaining > 0);
+        let next = next_of(part.kind, q, e, remaining > 0);
         put_links(out, q, p, next);
         q = e;
     }

@@ -10,7 +10,6 @@ ghost use Rattle.program_part.specs.Readable.{Readable};
 ghost use Rattle.program_walk.specs.Walk.{parts_end};
 ghost use Rattle.program_table.specs.Checking.{end_stored, Ending, ParentsAgree, links_in, row_byte, row_is, rows_are};
 
-use meaning::kinds::Kind;
 use meaning::sizes::{END_PLACE, MAX_DEPTH, NEXT_PLACE, NO_PART, PARENT_PLACE, ROW};
 use meaning::{Form, Number};
 use program_part::kinds::children_of;
@@ -100,7 +99,7 @@ impl<'a> Rows<'a> {
         let end = end_at(t, p);
         let parent = self.parent_of(p);
         let around = entry_at(t, Form::Table, parent);
-        let next = next_of(Kind::from(around.kind), p, end, end < end_at(t, parent));
+        let next = next_of(around.kind, p, end, end < end_at(t, parent));
         Links { end, parent, next }
     }
 

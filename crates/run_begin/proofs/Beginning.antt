@@ -4,8 +4,8 @@ use native.Mathlib.Omega.{arith}
 use mathlib.Core.Path.{◌≡◌, refl, sym, ◌∙◌}
 use mathlib.Core.Bool.{Bool, true, false}
 use mathlib.Core.List.{List, ◌++◌}
-use lib.ListN.{length, take, drop, replicate, length-replicate, replicate-append-replicate}
-use lib.Seq.{sets, length-sets, length-take-le}
+use lib.ListN.{length, drop, replicate, length-replicate, replicate-append-replicate}
+use lib.Seq.{sets, length-sets}
 use borrow.Rule.Slice.PartMut.{put_mid}
 use borrow.Author.Tests.{ne_eqb, le-leb, lt-leb, leb-true}
 use Rattle.base.specs.Lists.{flat}
@@ -54,29 +54,24 @@ module _ (t est : List ℕ) (room : ℕ) (h : begin_refusal t est room ≡ 0) wh
   pub record_room : record_length ≤ room
   record_room = leb-true record_length room (begin_tests_lem t est room h).1.1.0
 
+  module _ (n : ℕ) (kept : n ≡ room) where
+    pub estimate_room : estimate_place + length est ≤ n
+    estimate_room = omega (arith, record_room, (estimate_fits t est (begin_tests_lem t est room h).1.0).0, (table_held t table).1.within.variables_fit)
+
+    pub marks_room : marks_place + parts t ≤ n
+    marks_room = omega (arith, record_room, parts_fit t table)
+
 module _ (t est r : List ℕ) where
   -- the bytes: 0 everywhere, then the estimate, then the marks
-  module _ (h : begin_refusal t est (length r) ≡ 0) (m : List ℕ) (m-is : m ≡ replicate (length (take record_length r)) 0) where
-    abbrev cleared : List ℕ
-    cleared = m ++ drop record_length r
-
-    cleared_is : cleared ≡ sets r 0 (replicate record_length 0)
-    cleared_is =
-        let room : record_length ≤ length r = record_room t est (length r) h in
-        rw (m-is, length-take-le record_length r room) (sym (sets_start r (replicate record_length 0) room))
-
-    pub estimate_room : estimate_place + length est ≤ length cleared
-    estimate_room = rw (cleared_is, length-sets) (omega (arith, record_room t est (length r) h, (estimate_fits t est (begin_tests_lem t est (length r) h).1.0).0, (table_held t (table t est (length r) h)).1.within.variables_fit))
-
+  module _ (h : begin_refusal t est (length r) ≡ 0) (cleared : List ℕ) (cleared_is : cleared ≡ sets r 0 (replicate record_length 0)) where
     module _ (x : List ℕ) (x-is : x ≡ est) where
       abbrev estimated : List ℕ
       estimated = put_mid estimate_place (estimate_place + length est - estimate_place) cleared x
 
       estimated_is : estimated ≡ sets (sets r 0 (replicate record_length 0)) estimate_place est
-      estimated_is = rw (x-is, part_stored cleared est estimate_place (length est) refl estimate_room, cleared_is)
-
-      pub marks_room : marks_place + parts t ≤ length estimated
-      marks_room = rw (estimated_is, length-sets) (rw length-sets (omega (arith, record_room t est (length r) h, parts_fit t (table t est (length r) h))))
+      estimated_is =
+          let room : estimate_place + length est ≤ length cleared = estimate_room t est (length r) h (length cleared) (rw (cleared_is, length-sets)) in
+          rw (x-is, part_stored cleared est estimate_place (length est) refl room, cleared_is)
 
       pub fresh_written : (w : List ℕ) → w ≡ sets estimated (marks_place + 0) (initial_marks t 0) → w ≡ begun_into t est r
       fresh_written w w-is =

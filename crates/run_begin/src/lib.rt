@@ -7,7 +7,7 @@ ghost use Rattle.meaning.specs.Cycle.{begin_refusal, begun_into};
 ghost use Rattle.meaning.specs.Answers.{answer_number};
 ghost use Rattle.meaning.specs.Operations.{Begun};
 
-use base::copy_over;
+use base::{copy_over, fill};
 use meaning::sizes::{ESTIMATE_PLACE, MARKS_PLACE, RECORD};
 use meaning::{Answer, Refusal};
 use program_table::table::Table;
@@ -34,7 +34,7 @@ fn write_fresh_record(t: Table<'_>, est: &[u8], r: &mut [u8])
     requires { begin_refusal t.bytes.now est.now (length r.old) ≡ 0 }
     ensures { r.new ≡ begun_into t.entry.bytes.now est.now r.old }
 {
-    r[..RECORD].fill(0);
+    fill(r, 0, RECORD, 0);
     copy_over(est, &mut r[ESTIMATE_PLACE..ESTIMATE_PLACE + est.len()]);
     initialise(t, r, MARKS_PLACE, 0);
 }

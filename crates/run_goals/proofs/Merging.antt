@@ -7,8 +7,8 @@ use mathlib.Core.Path.{◌≡◌, refl, sym, ap, ◌∙◌}
 use mathlib.Core.Bool.{Bool, true, false, cond, ◌&&◌, ◌||◌, and-false}
 use mathlib.Core.List.{List, [], ◌∷◌, ◌++◌}
 use lib.Dec.{eqb}
-use lib.ListN.{length, get_or, take, drop, replicate, length-set, length-replicate, get_or-replicate, get_or-append}
-use lib.Seq.{sets, length-take-le, set-append_left, get_or-set_same, get_or-set_other, ext_get_or}
+use lib.ListN.{length, get_or, drop, replicate, length-set, length-replicate, get_or-replicate, get_or-append}
+use lib.Seq.{sets, set-append_left, get_or-set_same, get_or-set_other, ext_get_or}
 use borrow.Author.Tests.{eqb-true, eqb-false, ne_eqb}
 use Rattle.base.specs.Lists.{all, bytes_at, tabulate}
 use Rattle.base.proofs.Lists.{length-tabulate, get_or-tabulate}
@@ -150,13 +150,6 @@ goals_merged_lem v g es h l =
     let a : sets g 0 (replicate v no_goal) ≡ replicate v no_goal ++ drop v g = rw n at (sets_start g (replicate v no_goal) (rw n l)) in
     let b : sets g 0 (goal_bytes v es) ≡ goal_bytes v es ++ drop v g = rw m at (sets_start g (goal_bytes v es) (rw m l)) in
     rw (a, b) (merged_beside v (replicate v no_goal) (drop v g) es n h ∙ rw (bytes_merged v es h))
-
--- the bytes that no GOAL names, as code fills them in
-pub goals_begun : (g f : List ℕ) (n : ℕ) → n ≤ length g → f ≡ replicate (length (take n g)) no_goal → f ++ drop n g ≡ sets g 0 (replicate n no_goal)
-goals_begun g f n h f-is =
-    let k : length (take n g) ≡ n = length-take-le n g h in
-    let s : sets g 0 (replicate n no_goal) ≡ replicate n no_goal ++ drop n g = rw (length-replicate n no_goal) at (sets_start g (replicate n no_goal) (rw (length-replicate n no_goal) h)) in
-    rw (f-is, k, s)
 
 -- The pass over the marked leaves of a table, from bytes that no GOAL names, makes the goal bytes
 pub goals_made : (t r g f h : List ℕ) (u v : ℕ) → is_table t ≡ true → variables t ≤ length g → u ≡ variables t → v ≡ u → f ≡ sets g 0 (replicate v no_goal) → h ≡ goals_merged f (leaves_from t 0 (marks_in t r)) → h ≡ sets g 0 (goal_bytes (variables t) (leaves_from t 0 (marks_in t r)))

@@ -8,6 +8,7 @@ ghost use Rattle.meaning.specs.Record.{marks_place, marks_in};
 ghost use Rattle.meaning.specs.Cycle.{leaves_from, goal_bytes};
 ghost use Rattle.run_goals.specs.Merged.{merged_byte, goal_merged, goals_merged, leaf_at};
 
+use base::fill;
 use meaning::kinds::Kind;
 use meaning::sizes::{CONTESTED, NO_GOAL};
 use meaning::{Number, Operand};
@@ -66,6 +67,6 @@ pub fn write_goals(t: Table<'_>, r: Record<'_>, g: &mut [u8])
     requires { variables t.bytes.now ≤ length g.old }
     ensures { g.new ≡ sets g.old 0 (goal_bytes (variables t.entry.bytes.now) (leaves_from t.entry.bytes.now 0 (marks_in t.entry.bytes.now r.entry.bytes.now))) }
 {
-    g[..usize::from(t.variables())].fill(NO_GOAL);
+    fill(g, 0, usize::from(t.variables()), NO_GOAL);
     merge_all(t, r, g);
 }

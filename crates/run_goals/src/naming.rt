@@ -11,8 +11,8 @@ use meaning::sizes::CONTESTED;
 pub fn lowest_contested(g: &[u8], n: u8) -> Option<u8>
     requires n_in_bounds { n ≤ length g.now }
     requires n_le_max_variables { n ≤ max_variables }
-    ensures result_value { offer_number (Ok result) ≡ answered + lowest_contested 0 (bytes_at g.now 0 n) }
     ensures result_value_2 { one_case (Ok result) ≡ true }
+    ensures result_value { offer_number (Ok result) ≡ answered + lowest_contested 0 (bytes_at g.now 0 n) }
 {
     (0..n).find(|v| g[usize::from(*v)] == CONTESTED)
 }

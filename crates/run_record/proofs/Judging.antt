@@ -1,4 +1,4 @@
--- What a condition of the program asks for stands in the estimate and in the record, and what the code finds there of a clock is its outcome.
+-- What a condition of the program asks for stands in the estimate and in the record, and what the code finds there is its outcome.
 use Prim.Native.Nat.{ℕ, ◌+◌, ◌-◌, ◌*◌, ◌<◌, ◌≤◌}
 use native.Mathlib.Nat.{zero-add}
 use native.Mathlib.Omega.{arith}
@@ -15,7 +15,7 @@ use Rattle.meaning.specs.declared.Operand.{Operand}
 use Rattle.meaning.specs.declared.Outcome.{Outcome}
 use Rattle.meaning.specs.declared.kinds.Test.{Test}
 use Rattle.meaning.specs.declared.kinds.Test.TheVariants.{Equals as EQUALS, Differs as DIFFERS, AtLeast as AT-LEAST, Below as BELOW}
-use Rattle.meaning.specs.Sizes.{max_value, max_clocks, time_width}
+use Rattle.meaning.specs.Sizes.{unknown_value, max_value, max_clocks, time_width}
 use Rattle.meaning.specs.Kinds.{value, test_of, test_allowed, condition_allowed}
 use Rattle.meaning.specs.Program.{variables, clocks}
 use Rattle.meaning.specs.Record.{started_place, starts_place, time_at, started_in, starts_in}
@@ -55,3 +55,13 @@ module _ (t : List ℕ) (o : Operand) (allowed : condition_allowed (variables t)
     pub judged_below : k ≡ BELOW → b ≡ ltb (time - time_at r (starts_place + time_width * o.b1)) (value o) → x ≡ outcome (situation t r est time) o
     unfolding outcome
     judged_below h b-is = rw (← k-is, h, flag_held (inr h), start_held (inr h), ← b-is, ← s-is) x-is
+
+-- tests 1 and 2: the situation has the estimate as it is
+module _ (t r est : List ℕ) (time : ℕ) (o : Operand) (k b : Bool) (x : Outcome) (k-is : k ≡ not (eqb (get_or est o.b1 0) unknown_value)) (b-is : b ≡ eqb (get_or est o.b1 0) (value o)) where
+  pub judged_equals : o.b0 ≡ 1 → x ≡ open_unless k b → x ≡ outcome (situation t r est time) o
+  unfolding outcome test_of
+  judged_equals h x-is = rw (h, ← b-is, ← k-is) x-is
+
+  pub judged_differs : o.b0 ≡ 2 → x ≡ open_unless k (not b) → x ≡ outcome (situation t r est time) o
+  unfolding outcome test_of
+  judged_differs h x-is = rw (h, ← b-is, ← k-is) x-is

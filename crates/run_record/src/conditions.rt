@@ -4,7 +4,7 @@ ghost use Rattle.meaning.specs.Sizes.{unknown_value, max_clocks, time_width};
 ghost use Rattle.meaning.specs.Kinds.{value, condition_allowed};
 ghost use Rattle.meaning.specs.Program.{variables, clocks};
 ghost use Rattle.meaning.specs.Record.{starts_place, time_at};
-ghost use Rattle.meaning.specs.Conditions.{decided, open_unless, outcome, satisfied, violated};
+ghost use Rattle.meaning.specs.Conditions.{decided, open_unless, outcome, is_satisfied, is_violated, satisfied, violated};
 ghost use Rattle.meaning.specs.Cycle.{situation};
 
 use crate::fields::Record;
@@ -29,6 +29,18 @@ fn open_unless(testable: bool, b: bool) -> Outcome
     ensures { result ≡ open_unless testable b }
 {
     if testable { decided(b) } else { Outcome::Open }
+}
+
+pub fn is_satisfied(x: Outcome) -> bool
+    ensures { result ≡ is_satisfied x }
+{
+    x == Outcome::Satisfied
+}
+
+pub fn is_violated(x: Outcome) -> bool
+    ensures { result ≡ is_violated x }
+{
+    x == Outcome::Violated
 }
 
 // Whether the operand's variable has its value: what ends a GOAL, and what tests 1 and 2 ask of a
@@ -111,7 +123,7 @@ impl<'a> Situation<'a> {
         requires { condition_allowed (variables self.table.now) (clocks self.table.now) o ≡ true }
         ensures { result ≡ satisfied (situation self.entry.table.now self.entry.record.bytes.now self.entry.estimate.now self.entry.time) o }
     {
-        self.outcome(o) == Outcome::Satisfied
+        is_satisfied(self.outcome(o))
     }
 
     #[tactic(auto, unfolding(meaning::specs::Conditions::violated))]
@@ -119,6 +131,6 @@ impl<'a> Situation<'a> {
         requires { condition_allowed (variables self.table.now) (clocks self.table.now) o ≡ true }
         ensures { result ≡ violated (situation self.entry.table.now self.entry.record.bytes.now self.entry.estimate.now self.entry.time) o }
     {
-        self.outcome(o) == Outcome::Violated
+        is_violated(self.outcome(o))
     }
 }

@@ -15,7 +15,7 @@ use crate::{Reached, Read, SignTest, Stop};
 use meaning::kinds::{Kind, Test};
 use text_grammar::tokens::{Mark, Token};
 use text_parts::{clamped, put_part};
-use text_tokens::{end_at, token_at};
+use text_tokens::{end_at, stands, token_at};
 
 // The first token from place e on, by whose kind a reader goes: no sign where there is none.
 #[tactic(auto, unfolding(crate::specs::Reading::next_token))]
@@ -35,12 +35,13 @@ pub(crate) fn after(t: &[u8], e: u16) -> u16
     end_at(t, usize::from(e)) as u16
 }
 
-// Whether it is a mark.
+// Whether it is a mark. In line, as `stands` is.
+#[inline(always)]
 pub(crate) fn stands_at(t: &[u8], e: u16, m: Mark) -> bool
     requires { e ≤ length t.now }
     ensures { Decides result (first_token (tokens_from t.now e) ≡ Some (mark m)) }
 {
-    token_at(t, usize::from(e)) == Some(Token::Mark(m))
+    stands(t, usize::from(e), m)
 }
 
 // The number that must stand next.

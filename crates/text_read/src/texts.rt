@@ -1,9 +1,11 @@
 // Reads a whole text: its sizes, the colon and its body.
 ghost use Rattle.std.specs.Prelude.{◌≡◌, ◌≤◌, length};
+ghost use Rattle.std.specs.Option.{is_some};
 ghost use Rattle.text_grammar.specs.Texts.{max_text_length};
 ghost use Rattle.text_grammar.specs.Lexer.{tokens, tokens_from};
 ghost use Rattle.text_grammar.specs.Parser.{parse_text};
 ghost use Rattle.text_stops.specs.Places.{cut_at};
+ghost use Rattle.text_tokens.specs.First.{first_token};
 ghost use Rattle.text_read.specs.Entries.{parse_header, parse_program};
 ghost use Rattle.text_read.specs.Reading.{ReadsHeader, ReadsText};
 
@@ -32,6 +34,14 @@ fn read_header(t: &[u8]) -> Result<Header, Stop>
     })
 }
 
+// Whether a text goes on with a token from place e on.
+fn goes_on(t: &[u8], e: u16) -> bool
+    requires { e ≤ length t.now }
+    ensures { result ≡ is_some (first_token (tokens_from t.now e)) }
+{
+    token_at(t, usize::from(e)).is_some()
+}
+
 // Reads the body, with which the text must end.
 fn read_program(t: &[u8], header: Header, parts: &mut [u8]) -> Result<Program, Stop>
     requires t_len_bound { length t.now ≤ max_text_length }
@@ -44,7 +54,7 @@ fn read_program(t: &[u8], header: Header, parts: &mut [u8]) -> Result<Program, S
         parts: 0,
     };
     let end = body(t, begin, parts)?;
-    if token_at(t, usize::from(end.place)).is_some() {
+    if goes_on(t, end.place) {
         return Err(Stop { place: end.place });
     }
     Ok(Program {

@@ -95,7 +95,7 @@ module _ (run : List ℕ) (h : 1 ≤ length run) where
       go (b ∷ rest) k = refl
 
   module _ (n : ℕ) (n-is : Some n ≡ number_in (take (length run - 1) (drop 1 run))) where
-    behind : (is_number (drop 1 run) ≡ true) × (decimal (drop 1 run) ≡ n)
+    pub behind : (is_number (drop 1 run) ≡ true) × (decimal (drop 1 run) ≡ n)
     behind = number_some (drop 1 run) n (rw (take_rest run 1) at n-is)
 
     pub named_variable : get_or run 0 0 ≡ code "v" → variable n ≡ named_token run

@@ -43,17 +43,17 @@ module _ (p : ℕ → Bool) (t : List ℕ) (P Q : ℕ → Type 0) (next : (j : �
   gone_over (suc n) j m q = gone_step j (p (get_or t j 0)) refl (omega arith) q (gone_over n (j + 1) (omega arith))
 
 -- Blanks that are passed: no token is, from `from` on, before i
-record Skipping (t : List ℕ) (from i : ℕ) : Type 0 where
-  onward : from ≤ i
-  within : from ≤ length t → i ≤ length t
-  same_tokens : tokens_from t i ≡ tokens_from t from
-  uncut : cut_at t from ≡ 0 → cut_at t i ≡ 0
+pub record Skipping (t : List ℕ) (from i : ℕ) : Type 0 where
+  pub onward : from ≤ i
+  pub within : from ≤ length t → i ≤ length t
+  pub same_tokens : tokens_from t i ≡ tokens_from t from
+  pub uncut : cut_at t from ≡ 0 → cut_at t i ≡ 0
 
-skip_starts : (t : List ℕ) (from : ℕ) → Skipping t from from
+pub skip_starts : (t : List ℕ) (from : ℕ) → Skipping t from from
 skip_starts t from = record { onward = omega arith; within = λ h. h; same_tokens = refl; uncut = λ w. w }
 
 module _ (t : List ℕ) (from i : ℕ) (passed : Skipping t from i) where
-  skip_next : i < length t → is_blank (get_or t i 0) ≡ true → Skipping t from (i + 1)
+  pub skip_next : i < length t → is_blank (get_or t i 0) ≡ true → Skipping t from (i + 1)
   unfolding tokens_from
   skip_next h blank =
       let step = blank_step (get_or t i 0) (drop (suc i) t) blank in
@@ -64,11 +64,11 @@ module _ (t : List ℕ) (from i : ℕ) (passed : Skipping t from i) where
         uncut = λ w. uncut_after t i (blank_apart (get_or t i 0) (get_or t (i + 1) 0) blank);
       }
 
-  skip_stops : is_blank (get_or t i 0) ≡ false → Skipped t from i
+  pub skip_stops : is_blank (get_or t i 0) ≡ false → Skipped t from i
   skip_stops e =
       record { onward = passed.onward; within = passed.within; same_tokens = passed.same_tokens; no_blank = λ h. e; uncut = passed.uncut }
 
-  skip_ends : length t ≤ i → Skipped t from i
+  pub skip_ends : length t ≤ i → Skipped t from i
   skip_ends h = record { onward = passed.onward; within = passed.within; same_tokens = passed.same_tokens; no_blank = λ k. absurd (omega arith); uncut = passed.uncut }
 
 pub skipped_lem : (t : List ℕ) (from n : ℕ) → n ≡ length (take_while is_blank (drop from t)) → Skipped t from (from + n)
@@ -80,18 +80,18 @@ pub counted_fits : (p : ℕ → Bool) (t : List ℕ) (from n : ℕ) → n ≡ le
 counted_fits p t from n e h k = omega (arith, e, length-take (prefix_len p (drop from t)) (drop from t), length-drop from t)
 
 -- Letters and digits that are passed
-record InWord (t : List ℕ) (from i : ℕ) : Type 0 where
-  onward : from ≤ i
-  within : i ≤ length t
-  word : all is_word_byte (take (i - from) (drop from t)) ≡ true
+pub record InWord (t : List ℕ) (from i : ℕ) : Type 0 where
+  pub onward : from ≤ i
+  pub within : i ≤ length t
+  pub word : all is_word_byte (take (i - from) (drop from t)) ≡ true
 
-word_starts : (t : List ℕ) (from : ℕ) → from ≤ length t → InWord t from from
+pub word_starts : (t : List ℕ) (from : ℕ) → from ≤ length t → InWord t from from
 word_starts t from h =
     let k : from - from ≡ 0 = omega arith in
     record { onward = omega arith; within = h; word = rw k }
 
 module _ (t : List ℕ) (from i : ℕ) (passed : InWord t from i) where
-  word_next : i < length t → is_word_byte (get_or t i 0) ≡ true → InWord t from (i + 1)
+  pub word_next : i < length t → is_word_byte (get_or t i 0) ≡ true → InWord t from (i + 1)
   word_next h next =
       let k : i + 1 - from ≡ suc (i - from) = omega arith in
       let j : from + (i - from) ≡ i = omega arith in
@@ -101,11 +101,11 @@ module _ (t : List ℕ) (from i : ℕ) (passed : InWord t from i) where
         word = rw (k, take-suc (drop from t) (i - from) 0 (rw (length-drop from t) (omega arith)), all_append, passed.word, get_or-drop, j, next);
       }
 
-  word_stops : is_word_byte (get_or t i 0) ≡ false → WordEnds t from i
+  pub word_stops : is_word_byte (get_or t i 0) ≡ false → WordEnds t from i
   word_stops e =
       record { onward = passed.onward; within = passed.within; word = passed.word; ended = λ h. e }
 
-  word_ends : length t ≤ i → WordEnds t from i
+  pub word_ends : length t ≤ i → WordEnds t from i
   word_ends h = record { onward = passed.onward; within = passed.within; word = passed.word; ended = λ k. absurd (omega arith) }
 
 pub word_ends_lem : (t : List ℕ) (from n : ℕ) → from ≤ length t → n ≡ length (take_while is_word_byte (drop from t)) → WordEnds t from (from + n)

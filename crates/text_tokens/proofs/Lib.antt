@@ -1,3 +1,4 @@
 pub mod Ends
 pub mod Decimals
 pub mod Classes
+pub mod Marks

@@ -1,10 +1,10 @@
 -- What the code answers of the first token from a place on: the token, and where it ends.
-use Rattle.std.specs.Prelude.{ℕ, ◌-◌, ◌<◌, ◌≤◌, ◌≡◌, true, false, cond, ◌≢◌, List, [], ◌∷◌, length, get_or, take, drop, Option, Some, None, find}
+use Rattle.std.specs.Prelude.{ℕ, ◌-◌, ◌<◌, ◌≤◌, ◌≡◌, true, false, cond, ◌≢◌, List, [], ◌∷◌, length, eqb, get_or, take, drop, Option, Some, None, find}
 use Rattle.base.specs.Lists.{all, same}
 use Rattle.text_grammar.specs.Characters.{is_blank, is_word_byte}
 use Rattle.text_grammar.specs.declared.tokens.Mark.{Mark}
 use Rattle.text_grammar.specs.declared.tokens.Token.{Token}
-use Rattle.text_grammar.specs.Tokens.{spelling, decimal, is_number, token_of}
+use Rattle.text_grammar.specs.Tokens.{marks, spelling, decimal, is_number, token_of}
 use Rattle.text_grammar.specs.Lexer.{tokens_from}
 use Rattle.text_stops.specs.Places.{cut_at}
 
@@ -20,6 +20,10 @@ later_tokens (t ∷ ts) = ts
 -- the first of these marks that is spelled so, if one is
 unfoldable pub mark_among : List Mark → List ℕ → Option Mark
 mark_among ms run = find (λ m. same run (spelling m)) ms
+
+-- the first of the marks whose spelling begins with a byte, if one's does
+unfoldable pub mark_from : ℕ → Option Mark
+mark_from b = find (λ m. eqb b (get_or (spelling m) 0 0)) marks
 
 -- the number that a run is, if it is one
 unfoldable pub number_in : List ℕ → Option ℕ

@@ -4,13 +4,15 @@
 pub mod runs;
 pub mod tokens;
 
-ghost use Rattle.std.specs.Prelude.{◌≡◌, ◌≤◌, length};
+ghost use Rattle.std.specs.Prelude.{◌≡◌, ◌≤◌, length, Some};
+ghost use Rattle.std.specs.Bool.{Decides};
+ghost use Rattle.text_grammar.specs.declared.tokens.Token.TheVariants.{Mark as mark};
 ghost use Rattle.text_grammar.specs.Lexer.{tokens_from};
 ghost use Rattle.text_tokens.specs.First.{first_token, Passed};
 
 use crate::runs::{run_end, skip_blanks};
-use crate::tokens::token_of;
-use text_grammar::tokens::Token;
+use crate::tokens::{spells, token_of};
+use text_grammar::tokens::{Mark, Token};
 
 // The first token from place `from` on, if there is one.
 #[tactic(auto, using(crate::proofs::Ends::token_none))]
@@ -26,7 +28,22 @@ pub fn token_at(t: &[u8], from: usize) -> Option<Token>
     Some(token_of(&t[i..e]))
 }
 
-// The place after it, or the text's end where there is none.
+// Whether the first token from place `from` on is this mark. By its spelling alone, since to tell which token stands there
+// takes more. In line: a reader asks it of one mark, again and again.
+#[inline(always)]
+pub fn stands(t: &[u8], from: usize, m: Mark) -> bool
+    requires { from ≤ length t.now }
+    ensures { Decides result (first_token (tokens_from t.now from) ≡ Some (mark m)) }
+{
+    let i = skip_blanks(t, from);
+    if t.len() <= i {
+        return false;
+    }
+    let e = run_end(t, i);
+    spells(&t[i..e], m)
+}
+
+// The place after the first token from place `from` on, or the text's end where there is none.
 pub fn end_at(t: &[u8], from: usize) -> usize
     requires { from ≤ length t.now }
     ensures { Passed t.now from result }

@@ -2,30 +2,10 @@
 ghost use Rattle.std.specs.Prelude.{◌≡◌};
 ghost use Rattle.base.specs.Lists.{same};
 ghost use Rattle.text_grammar.specs.Tokens.{marks, spelling, named_token, token_of};
-ghost use Rattle.text_tokens.specs.First.{mark_among, number_in};
+ghost use Rattle.text_tokens.specs.First.{mark_among, mark_from, number_in};
 
 use crate::runs::is_digit;
 use text_grammar::tokens::{Mark, Token};
-
-// All marks.
-const MARKS: [Mark; 16] = [
-    Mark::StartWord,
-    Mark::WaitWord,
-    Mark::MaintainWord,
-    Mark::RepeatWord,
-    Mark::IfWord,
-    Mark::ThenWord,
-    Mark::ElseWord,
-    Mark::EqualSign,
-    Mark::DiffersSign,
-    Mark::AtLeastSign,
-    Mark::BelowSign,
-    Mark::Semicolon,
-    Mark::Comma,
-    Mark::Opening,
-    Mark::Closing,
-    Mark::Colon,
-];
 
 // The bytes that a mark is spelled with.
 #[tactic(auto, unfolding(text_grammar::specs::Tokens::spelling))]
@@ -54,25 +34,48 @@ fn spelling(m: Mark) -> &'static [u8]
 
 // Whether a run is spelled as a mark.
 #[tactic(auto, using(crate::proofs::Classes::same_bytes))]
-fn spells(run: &[u8], m: Mark) -> bool
+pub(crate) fn spells(run: &[u8], m: Mark) -> bool
     ensures { result ≡ same run.now (spelling m) }
 {
     run == spelling(m)
 }
 
-// The first of these marks that a run is spelled as, if one is.
-#[tactic(auto, unfolding(crate::specs::First::mark_among))]
-fn mark_among(run: &[u8], ms: &[Mark]) -> Option<Mark>
-    ensures { result ≡ mark_among ms.now run.now }
+// The mark that begins with a byte, if one does: no two begin with the same.
+#[tactic(auto, unfolding(crate::specs::First::mark_from, text_grammar::specs::Tokens::spelling))]
+fn mark_from(first: u8) -> Option<Mark>
+    ensures { result ≡ mark_from first }
 {
-    ms.iter().copied().find(|m| spells(run, *m))
+    match first {
+        b's' => Some(Mark::StartWord),
+        b'w' => Some(Mark::WaitWord),
+        b'm' => Some(Mark::MaintainWord),
+        b'r' => Some(Mark::RepeatWord),
+        b'i' => Some(Mark::IfWord),
+        b't' => Some(Mark::ThenWord),
+        b'e' => Some(Mark::ElseWord),
+        b'=' => Some(Mark::EqualSign),
+        b'!' => Some(Mark::DiffersSign),
+        b'>' => Some(Mark::AtLeastSign),
+        b'<' => Some(Mark::BelowSign),
+        b';' => Some(Mark::Semicolon),
+        b',' => Some(Mark::Comma),
+        b'(' => Some(Mark::Opening),
+        b')' => Some(Mark::Closing),
+        b':' => Some(Mark::Colon),
+        _ => None,
+    }
 }
 
 // The mark that a run is spelled as, if it is one.
+#[tactic(auto, using(crate::proofs::Marks::mark_of_none, crate::proofs::Marks::mark_unbegun))]
 fn mark_in(run: &[u8]) -> Option<Mark>
     ensures { result ≡ mark_among marks run.now }
 {
-    mark_among(run, &MARKS)
+    let [first, ..] = run else {
+        return None;
+    };
+    let mark = mark_from(*first)?;
+    spells(run, mark).then_some(mark)
 }
 
 // The number that a run is, if it is one: up to the largest of 16 bits, with no leading zero.

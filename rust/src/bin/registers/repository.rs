@@ -10,8 +10,9 @@ use super::declarations::{is_place, named, KINDS};
 /// Folders that the registers read.
 const SOURCES: [&str; 2] = ["crates", "rust/tests"];
 
-/// The notes on the port to today's Rattle and on its forms, which name what was there before.
-const BEFORE: [&str; 2] = ["docs/PORT.md", "docs/DESIGN-PASS.md"];
+/// The notes on the port to today's Rattle, on its forms and on what was mended after that, which name what was there
+/// before.
+const BEFORE: [&str; 3] = ["docs/PORT.md", "docs/DESIGN-PASS.md", "docs/LOOK-BACK.md"];
 
 /// The folder of a crate in which rt keeps what it makes.
 const MADE: &str = "out";

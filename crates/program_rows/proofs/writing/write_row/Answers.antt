@@ -36,7 +36,7 @@ loop-remaining-preserved c =
     let ends = end_read _ _ _ _ _ _ _ _ c.loop-remaining.invariant.1.0 c.loop-remaining-test.true c.loop-remaining.invariant.1.1 small _ _ c.row_place.ensures c.read_number-e.ensures in (
       omega (arith, c.put_links.auto, c.loop-remaining.invariant.0),
       (
-        link_child _ _ _ _ _ _ _ _ c.loop-remaining.invariant.1.0 c.loop-remaining-test.true c.loop-remaining.invariant.1.1 small _ _ _ ends c.put_links.ensures _ refl (rw (← c.from.ensures) c.next_of-next.ensures),
+        link_child _ _ _ _ _ _ _ _ c.loop-remaining.invariant.1.0 c.loop-remaining-test.true c.loop-remaining.invariant.1.1 small _ _ _ ends c.put_links.ensures _ refl c.next_of-next.ensures,
         others_stand _ _ _ _ _ _ _ _ c.loop-remaining.invariant.1.0 c.loop-remaining-test.true c.loop-remaining.invariant.1.1 small _ _ _ ends c.put_links.ensures,
       ),
     )

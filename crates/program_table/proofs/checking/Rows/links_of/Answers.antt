@@ -11,4 +11,4 @@ end_at-requires c =
 
 pub returns : goal.returns
 returns c =
-    part_links _ _ c.requires.parents_agree _ c.end_at-end.ensures c.requires.there c.requires.p_nonzero _ _ _ _ c.parent_of-parent.ensures c.entry_at-around.ensures c.end_at.ensures (rw (← c.from.ensures) c.next_of-next.ensures)
+    part_links _ _ c.requires.parents_agree _ c.end_at-end.ensures c.requires.there c.requires.p_nonzero _ _ _ _ c.parent_of-parent.ensures c.entry_at-around.ensures c.end_at.ensures c.next_of-next.ensures
